@@ -1,0 +1,3 @@
+pub mod Sentences
+pub mod Clocks
+pub mod Turns

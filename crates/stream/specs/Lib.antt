@@ -1,0 +1,5 @@
+pub mod Refusals
+pub mod Bytes
+pub mod Signals
+pub mod Words
+pub mod Sending

@@ -3,11 +3,13 @@
 mod clock;
 mod judging;
 mod limit;
+mod passing;
 mod pattern;
 mod rule;
 
 pub use judging::Monitor;
 pub use limit::Ticks;
+pub use passing::judge_on;
 pub use pattern::Pattern;
 pub use rule::Rule;
 pub use rule::RuleMonitor;

@@ -11,7 +11,7 @@ use Rattle.stream.specs.declared.refusal.Refusal.{Refusal}
 use Rattle.stream.specs.declared.refusal.Refusal.the-variants.{StreamEnded, UnusedKind, GapTooLong, HighLetter, NumbersSpent, EndPayload, GapAtEnd}
 use Rattle.stream.specs.declared.numbered.Numbered.{Numbered}
 use Rattle.stream.specs.Words.{State, kind, load, longestGap, lastNumber, refusal, made, after, sampleIn, answerBy, stateBy, Took}
-use Rattle.stream.proofs.Samples.{same-sample}
+use Rattle.stream.proofs.Same.{same-sample}
 
 module _ (s : State) (w : ℕ) where
   pub is-ended : s .ended ≡ true → refusal s w ≡ Some StreamEnded

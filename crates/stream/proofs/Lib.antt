@@ -1,3 +1,3 @@
-pub mod Samples
+pub mod Same
 pub mod Checks
 pub mod Sends

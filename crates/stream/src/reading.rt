@@ -35,6 +35,14 @@ impl Feed {
         Ok(())
     }
 
+    /// The number that the next sample will have.
+    pub fn next_number(&self) -> u64
+        ensures { λ r. ⌜ (r ≡ stateOf (now (self .entry)) .next) × (1 ≤ r) ⌝ }
+    {
+        let Feed { next, .. } = self;
+        *next
+    }
+
     /// Takes one word. Answers the sample that it completes, if it completes one; a refused word alters nothing.
     pub fn take(&mut self, word: u32) -> Result<Option<Numbered>, Refusal>
         ensures { λ r. ⌜ Took (stateOf (now (self .entry))) word r (stateOf (now (self .exit))) ⌝ }

@@ -4,7 +4,7 @@ ghost use Prim.Native.Nat.{_<_, _≤_};
 ghost use Rattle.std.specs.Results.{Cases};
 ghost use Rattle.stream.specs.declared.refusal.Refusal.the-variants.{HighSignal};
 ghost use Rattle.stream.specs.declared.sample.Sample.{Sample};
-ghost use Rattle.stream.specs.Signals.{hasLetter, holdsAt};
+ghost use Rattle.stream.specs.Signals.{bareSignal, everySignal, letterSignal, negatedSignal, hasLetter, holdsAt};
 use crate::letter::Letter;
 use crate::letter::LetterDebug;
 use crate::letter::LetterEq;
@@ -28,7 +28,7 @@ pub struct Signal {
 
 impl Signal {
     fn bare(source: Source) -> Signal
-        ensures { λ r. ⌜ r ≡ record { source = source; negated = false } ⌝ }
+        ensures { λ r. ⌜ r ≡ bareSignal source ⌝ }
     {
         Signal {
             source,
@@ -38,21 +38,24 @@ impl Signal {
 
     /// The signal `*`.
     pub fn every() -> Signal
-        ensures { λ r. ⌜ ((x : Sample) → holdsAt r x ≡ true) ⌝ }
+        ensures value { λ r. ⌜ r ≡ everySignal ⌝ }
+        ensures meaning { λ r. ⌜ ((x : Sample) → holdsAt r x ≡ true) ⌝ }
     {
         Signal::bare(Source::Every)
     }
 
     /// The signal of a letter, by its bit from a, which is 0, to x, which is 23.
     pub fn letter(bit: u8) -> Result<Signal, Refusal>
-        ensures { λ r. ⌜ Cases r (λ p. (bit < 24) × ((x : Sample) → holdsAt p x ≡ hasLetter bit x)) (λ e. (24 ≤ bit) × (e ≡ HighSignal)) ⌝ }
+        ensures value { λ r. ⌜ Cases r (λ p. (low : bit < 24) × (p ≡ letterSignal bit low)) (λ e. (e ≡ HighSignal) × (24 ≤ bit)) ⌝ }
+        ensures meaning { λ r. ⌜ Cases r (λ p. (x : Sample) → holdsAt p x ≡ hasLetter bit x) (λ _. Unit {0}) ⌝ }
     {
         Ok(Signal::bare(Source::Letter(Letter::new(bit)?)))
     }
 
     /// The signal with `!` before it.
     pub fn negated(self) -> Signal
-        ensures { λ r. ⌜ ((x : Sample) → holdsAt r x ≡ not (holdsAt self x)) ⌝ }
+        ensures value { λ r. ⌜ r ≡ negatedSignal self ⌝ }
+        ensures meaning { λ r. ⌜ ((x : Sample) → holdsAt r x ≡ not (holdsAt self x)) ⌝ }
     {
         Signal {
             source: self.source,

@@ -1,0 +1,13 @@
+pub mod Entries
+pub mod Picks
+pub mod Only
+pub mod Sorting
+pub mod Listings
+pub mod Falling
+pub mod Feeding
+pub mod Deliveries
+pub mod Alikes
+pub mod Ranges
+pub mod Held
+pub mod Stories
+pub mod Plays

@@ -1,0 +1,10 @@
+pub mod Order
+pub mod Ledgers
+pub mod Losses
+pub mod Falls
+pub mod Words
+pub mod Account
+pub mod Pieces
+pub mod Calls
+pub mod Story
+pub mod Chains

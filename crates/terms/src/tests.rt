@@ -1,7 +1,6 @@
-use crate::clause::clause;
-use monitor::RuleMonitor;
-use panel::Solo;
-use panel::SoloPanel;
+use crate::expected::expected_at;
+use book::Book;
+use book::BookPanel;
 use std::test::*;
 use stream::RefusalDebug;
 use watch::Notice;
@@ -11,30 +10,29 @@ const NONE: Notice = Notice { seat: 0, number: 0 };
 
 #[test]
 fn numbers_beyond_sixteen_bits() -> Result<(), Fail> {
-    let mut watch = Watch::new(Solo::new(clause()?));
+    let mut book = Book::new();
+    check(book.read(b"1 never b\n12 never a\n").is_ok())?;
+    let mut watch = Watch::new(book);
     watch.begin(65_535)?;
-    // a, then nothing for 6 ticks
-    let (taken, refused) = watch.deliver(
-        &[0x4000_0000, 0x4000_0001, 6, 0x4000_0000, 0x8000_0000, 7],
-    );
-    check_eq(taken, 4)?;
+    let (taken, refused) = watch.deliver(&[0x4000_0000, 0x4000_0000, 0x4000_0003, 0x8000_0000, 7]);
+    check_eq(taken, 3)?;
     check(refused.is_some())?;
     let mut out = [NONE; 2];
-    check_eq(watch.list(&mut out), (1, 1))?;
-    check_eq(out[0].number, 65_537)?;
-    check_eq(out[1].seat, 0)?;
-    check_eq(watch.list(&mut []), (0, 1))?;
-    check_eq(watch.collect()?.number, 65_537)?;
-    check(watch.collect().is_err())?;
-    check_eq(watch.list(&mut out), (0, 0))
+    check_eq(watch.list(&mut out), (2, 2))?;
+    check_eq(out[1].number, 65_537)?;
+    check_eq(watch.collect()?.seat, 1)?;
+    check_eq(watch.collect()?.seat, 2)?;
+    check(watch.collect().is_err())
 }
 
 #[test]
-fn nothing_waits_while_it_stands() -> Result<(), Fail> {
-    let mut watch = Watch::new(Solo::new(clause()?));
-    let pieces: [&[u32]; 3] = [&[0x4000_0001, 2], &[], &[3, 0x4000_0002, 0xC000_0000]];
-    let (taken, refused) = watch.deliver_pieces(&pieces);
-    check_eq(taken, 5)?;
-    check(refused.is_none())?;
-    check_eq(watch.list(&mut [NONE; 1]), (0, 0))
+fn what_was_expected() -> Result<(), Fail> {
+    let text = b"3 never c\n12 answer a by b in 5\n";
+    match Book::new().read(text) {
+        Ok(()) => Err(Fail::new("read")),
+        Err(fault) => {
+            check_eq(fault.line(), 2)?;
+            check_eq(expected_at(text, fault), (18, "expected within"))
+        }
+    }
 }

@@ -1,0 +1,5 @@
+pub mod Laws
+pub mod Same
+pub mod Seats
+pub mod Judged
+pub mod Made

@@ -1,0 +1,14 @@
+pub mod Cuts
+pub mod Numbers
+pub mod Same
+pub mod Spelled
+pub mod Keys
+pub mod Stops
+pub mod Parts
+pub mod Terms
+pub mod LineReading
+pub mod LineAnswers
+pub mod Texts
+pub mod Walks
+pub mod Unique
+pub mod OneFaults

@@ -1,0 +1,9 @@
+pub mod Words
+pub mod Grammar
+pub mod Faults
+pub mod Books
+pub mod Seats
+pub mod Numbers
+pub mod Tokens
+pub mod Reading
+pub mod Contract

@@ -23,6 +23,7 @@ use Rattle.grammar.specs.Reading.{Ws, Read, outcome, restOf, startsBy}
 abbrev pub leftOf : Reader → Ws
 leftOf r = left (r .line .now) (r .at)
 
+-- the length of the reader's line
 abbrev pub lenOf : Reader → ℕ
 lenOf r = length (r .line .now)
 

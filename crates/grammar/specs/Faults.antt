@@ -7,6 +7,7 @@ use Rattle.grammar.specs.declared.fault.Fault.the-variants.{EmptyText, TextToo
 use Rattle.grammar.specs.declared.fault.Layer.{Layer}
 use Rattle.grammar.specs.declared.fault.Layer.the-variants.{Text, Line, Book}
 
+-- why the text is refused; the refusal has its number from the crate `stream`
 abbrev pub refusalOf : Fault → Refusal
 refusalOf EmptyText = R.EmptyText
 refusalOf TextTooLong = R.TextTooLong
@@ -17,6 +18,7 @@ refusalOf (WordMissing n b) = R.WordMissing
 refusalOf (NumberOwed n b) = R.NumberOwed
 refusalOf (WordNotAllowed n b) = R.WordNotAllowed
 
+-- a fault is in the text as a whole, in a line, or in the book as a whole
 abbrev pub layerOf : Fault → Layer
 layerOf EmptyText = Text
 layerOf TextTooLong = Text
@@ -38,6 +40,7 @@ lineNumberOf (WordMissing n b) = n
 lineNumberOf (NumberOwed n b) = n
 lineNumberOf (WordNotAllowed n b) = n
 
+-- an empty text is refused at its beginning, and one that is too long behind its byte 8,191
 abbrev pub byteOf : Fault → ℕ
 byteOf EmptyText = 0
 byteOf TextTooLong = 8192

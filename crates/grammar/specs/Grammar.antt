@@ -46,6 +46,7 @@ abbrev pub afterWords : Option Signal → List (List ℕ)
 afterWords None = []
 afterWords (Some s) = codes "after" ∷ signalWord s ∷ []
 
+-- a rule: the signal that it waits for, and its body
 abbrev pub termWords : Term → List (List ℕ)
 termWords t = afterWords (t .after) ++ patternWords (t .pattern)
 
@@ -54,10 +55,12 @@ abbrev pub secondWords : Option Term → List (List ℕ)
 secondWords None = []
 secondWords (Some t) = codes "or" ∷ termWords t
 
+-- how many losses are allowed
 abbrev pub allowWords : Option ℕ → List (List ℕ)
 allowWords None = []
 allowWords (Some n) = codes "allow" ∷ decimal n ∷ []
 
+-- a line: its number, its rule, the further rule, and the allowance
 abbrev pub lineWords : Line → List (List ℕ)
 lineWords l =
     decimal (l .number .value) ∷ (termWords (l .first) ++ (secondWords (l .second) ++ allowWords (l .allow)))

@@ -18,6 +18,7 @@ use Rattle.grammar.specs.declared.number.Numeral.the-variants.{Value, WrongFor
 abbrev pub wellFormed : List ℕ → Bool
 wellFormed w = ltb 0 (length w) && (allDigits w && not (eqb (getD w 0 0) 48 && ltb 1 (length w)))
 
+-- what a word says as a number of at most `limit`
 abbrev pub readingOf : ℕ → List ℕ → Numeral
 readingOf limit w = cond (wellFormed w) (cond (leb (value 10 w) limit) (Value (value 10 w)) TooHigh) WrongForm
 
@@ -25,10 +26,11 @@ readingOf limit w = cond (wellFormed w) (cond (leb (value 10 w) limit) (Value (v
 abbrev pub numberOf : ℕ → ℕ → List ℕ → Option ℕ
 numberOf low high w = cond (wellFormed w && (leb (value 10 w) high && leb low (value 10 w))) (Some (value 10 w)) None
 
--- n, or the end of the range that is nearest
+-- the limit of n ticks; where n is out of range, the end that is nearest
 abbrev pub ticksOf : ℕ → Ticks
 ticksOf n = record { value = min n 999999999; small = min-le-right n 999999999 }
 
+-- the clause number n; where n is out of range, the end that is nearest
 abbrev pub clauseOf : ℕ → ClauseNumber
 clauseOf n = record {
   value = max 1 (min n 9999);

@@ -17,6 +17,7 @@ use Rattle.grammar.specs.declared.token.Token.{Token}
 use Rattle.grammar.specs.declared.token.Token.the-variants as T
 use Rattle.grammar.specs.Numbers.{wellFormed}
 
+-- how a keyword is written
 abbrev pub keyWord : Keyword → List ℕ
 keyWord K.After = codes "after"
 keyWord K.Never = codes "never"
@@ -34,6 +35,7 @@ keyWord K.Since = codes "since"
 keyWord K.Or = codes "or"
 keyWord K.Allow = codes "allow"
 
+-- keywords by their order
 abbrev pub indexOf : Keyword → ℕ
 indexOf K.After = 0
 indexOf K.Never = 1
@@ -51,6 +53,7 @@ indexOf K.Since = 12
 indexOf K.Or = 13
 indexOf K.Allow = 14
 
+-- whether two keywords are the same
 abbrev pub sameKey : Keyword → Keyword → Bool
 sameKey j k = eqb (indexOf j) (indexOf k)
 
@@ -59,10 +62,12 @@ abbrev pub firstKey : List ℕ → List Keyword → Option Keyword
 firstKey w [] = None
 firstKey w (k ∷ ks) = cond (sameBytes w (keyWord k)) (Some k) (firstKey w ks)
 
+-- all of them
 abbrev pub keywords : List Keyword
 keywords =
     K.After ∷ K.Never ∷ K.From ∷ K.Hold ∷ K.Least ∷ K.Under ∷ K.Repeat ∷ K.Within ∷ K.Answer ∷ K.By ∷ K.Keep ∷ K.For ∷ K.Since ∷ K.Or ∷ K.Allow ∷ []
 
+-- the keyword that a word is
 unfoldable pub keywordOf : List ℕ → Option Keyword
 keywordOf w = firstKey w keywords
 
@@ -70,13 +75,16 @@ keywordOf w = firstKey w keywords
 abbrev pub letterOf : ℕ → Signal
 letterOf b = letterSignal ((b - 97) % 24) (mod-lt (b - 97) (lit< tt))
 
+-- the signal of one byte: `*`, or a letter from a to x
 abbrev pub bareOf : ℕ → Option Signal
 bareOf b = cond (eqb b 42) (Some everySignal) (cond (leb 97 b && leb b 120) (Some (letterOf b)) None)
 
+-- the signal with `!` before it
 abbrev pub markedOf : Option Signal → Option Signal
 markedOf None = None
 markedOf (Some s) = Some (negatedSignal s)
 
+-- the signal that a word is
 abbrev pub signalOf : List ℕ → Option Signal
 signalOf [] = None
 signalOf (b ∷ []) = bareOf b

@@ -125,16 +125,20 @@ fn line_start(text: &[u8], byte: usize) -> usize {
 pub(crate) fn expected_at(text: &[u8], fault: Fault) -> (usize, &'static str) {
     let byte = fault.byte();
     let start = line_start(text, byte);
-    match fault {
-        Fault::EmptyText => (1, "expected at least one line"),
-        Fault::TextTooLong => (1, "expected at most 8192 bytes in all"),
-        Fault::OpenLine { .. } => (1, "expected a line end after the last line"),
-        Fault::TooManyLines { .. } => (1, "expected at most 64 lines"),
-        Fault::NumberNotRising { .. } => (1, "expected a number above that of the line before"),
-        _ if start <= byte && byte <= text.len() => (
-            byte - start + 1,
-            awaited_behind(&text[start..byte]).sentence(),
-        ),
-        _ => (1, "expected a line of the book"),
+    if start <= byte && byte <= text.len() {
+        let column = byte - start + 1;
+        match fault {
+            Fault::EmptyText => (column, "expected at least one line"),
+            // this fault lies in no line, and its line is 1 wherever its byte is
+            Fault::TextTooLong => (1, "expected at most 8192 bytes in all"),
+            Fault::OpenLine { .. } => (column, "expected a line end after the last line"),
+            Fault::TooManyLines { .. } => (column, "expected at most 64 lines"),
+            Fault::NumberNotRising { .. } => {
+                (column, "expected a number above that of the line before")
+            }
+            _ => (column, awaited_behind(&text[start..byte]).sentence()),
+        }
+    } else {
+        (1, "expected a line of the book")
     }
 }

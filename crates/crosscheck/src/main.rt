@@ -2,6 +2,9 @@
 //! It has its own reader of words, its own judge, which tries every position that a rule's sentence speaks of on the whole history of samples,
 //! and its own order of notices. It shares with the product nothing but the type of a notice, and that only to call it.
 //! Thousands of random stories are played through both, and every answer is compared.
+
+#![tactic(auto)]
+
 mod invent;
 mod judge;
 mod model;

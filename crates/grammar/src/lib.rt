@@ -1,5 +1,8 @@
 //! The book of terms: its tree and its text.
 //! A text is read exactly if it is the spelling of a book's lines, and any other has one fault, which is told with its place.
+
+#![tactic(auto)]
+
 mod clause;
 mod fault;
 mod line;

@@ -1,5 +1,8 @@
 //! Layers over monitors: after, either and allow, each one text for all that it can stand on, and a monitor again.
 //! Making a layer renews what is below it, and promises that the layer fails on a list of samples exactly where its sentence holds, for every list.
+
+#![tactic(auto)]
+
 mod after;
 mod allow;
 mod either;

@@ -1,5 +1,8 @@
 //! Monitors: what judges a stream of samples one by one, and the seven rules as such.
 //! A rule fails on a list of samples exactly where its quantified sentence holds, for every list.
+
+#![tactic(auto)]
+
 mod clock;
 mod judging;
 mod limit;

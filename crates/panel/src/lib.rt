@@ -1,5 +1,8 @@
 //! Panels: what judges a stream of samples for up to 64 seats at once, and answers the set of the lost seats.
 //! A panel of one seat over any monitor loses that seat on exactly the lists of samples on which the monitor fails.
+
+#![tactic(auto)]
+
 mod judging;
 mod seats;
 mod solo;

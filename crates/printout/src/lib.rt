@@ -1,6 +1,9 @@
 //! The lines of a report. Every line has 17 columns: a field of four, one space, and a field of twelve.
 //! A number is written in base ten at the right end of its field, with spaces before it. Each
 //! function is proved to give exactly the line that its contract names, at every argument.
+
+#![tactic(auto)]
+
 ghost use Rattle.std.specs.Prelude.{◌≡◌, ◌++◌, length, take, drop};
 ghost use Rattle.printout.specs.Lines.{field, header_line, notice_line, done_line, stop_line};
 

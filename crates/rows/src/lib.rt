@@ -2,6 +2,9 @@
 //! A line is read as the sample whose row it is, and refused only if it is the row of none; a row is written, and the bytes by which its
 //! sample is sent, to the byte. It is promised that what is sent comes back: of every list of samples whose numbers suffice, a decoder
 //! makes exactly that list, and a text of rows is that of one list only.
+
+#![tactic(auto)]
+
 mod decoder;
 mod decoding;
 mod reading;

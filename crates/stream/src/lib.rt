@@ -1,4 +1,7 @@
 //! Words in, samples out.
+
+#![tactic(auto)]
+
 mod assembler;
 mod feed;
 mod letter;

@@ -1,4 +1,7 @@
 //! Watches the samples of `trace.bin` by the book of terms in `terms.txt`, both in the working directory, and prints where each clause broke.
+
+#![tactic(auto)]
+
 mod expected;
 mod files;
 #[cfg(test)]

@@ -1,6 +1,9 @@
 //! Makes a trace from readable lines, and reads one back: `trace encode LINES TRACE`, `trace decode TRACE`.
 //! What a line says, its bytes, and what is read of bytes is the crate `rows`'s; here files are read and written, piece by piece,
 //! and what is wrong with one is said on standard error.
+
+#![tactic(auto)]
+
 mod decode;
 mod encode;
 mod fault;

@@ -1,6 +1,9 @@
 //! The watch: it reads words, has a panel judge each sample, and keeps for each seat the number of the sample at which it was lost.
 //! What each call does is promised as a relation between what the watch was and what it is, by seat, for every panel;
 //! and of every sequence of calls, a story, it is promised which seats are lost, which notices were collected and which wait.
+
+#![tactic(auto)]
+
 mod calls;
 mod ledger;
 mod notice;

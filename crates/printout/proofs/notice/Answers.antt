@@ -7,4 +7,4 @@ use Rattle.printout.proofs.notice.Goals as goal
 pub returns : goal.returns
 returns c =
     let wide = ap (λ k. k + 1) (length_field 4 c.args.term) in
-    c.put-number.ensures ∙ ap (λ l. take 5 l ++ field 12 c.args.number) c.put-term.ensures ∙ keep_one (field 4 c.args.term) _ (field 12 c.args.number) 32 5 wide
+    c.put_number.ensures ∙ ap (λ l. take 5 l ++ field 12 c.args.number) c.put_term.ensures ∙ keep_one (field 4 c.args.term) _ (field 12 c.args.number) 32 5 wide

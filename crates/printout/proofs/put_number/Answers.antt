@@ -6,4 +6,4 @@ use Rattle.printout.proofs.put_number.Goals as goal
 pub returns : goal.returns
 returns c =
     let wide : length (take 12 (drop 5 c.args.line.now)) ≡ 12 = simp (length-take, length-drop) (omega arith) in
-    put_end c.args.line.now c.write-right.new.out 5 12 (omega arith) ∙ ap (λ l. take 5 c.args.line.now ++ l) (c.write-right.ensures ∙ ap (λ w. field w c.args.number) wide)
+    put_end c.args.line.now c.write_right.new.out 5 12 (omega arith) ∙ ap (λ l. take 5 c.args.line.now ++ l) (c.write_right.ensures ∙ ap (λ w. field w c.args.number) wide)

@@ -16,10 +16,10 @@ loop-b-preserved c =
 
 pub returns-then-n-cap : goal.returns-then-n-cap
 returns-then-n-cap c =
-    let some = false-eqb (length c.args.word.now) 0 c.if-is-empty.ensures in
+    let some = false-eqb (length c.args.word.now) 0 c.if-is_empty.ensures in
     read_value c.args.word.now c.loop-b.b-index c.args.limit c.loop-b.n c.loop-b-test.false (omega arith) (λ z. ⊎_elim (λ h. h.1) (λ h. absurd (h z)) c.else-word-eq48.either) c.if-n-cap.true c.loop-b.invariant.0 c.loop-b.invariant.1
 
 pub returns-else-n-cap : goal.returns-else-n-cap
 returns-else-n-cap c =
-    let some = false-eqb (length c.args.word.now) 0 c.if-is-empty.ensures in
+    let some = false-eqb (length c.args.word.now) 0 c.if-is_empty.ensures in
     read_high c.args.word.now c.loop-b.b-index c.args.limit c.loop-b.n c.loop-b-test.false (omega arith) (λ z. ⊎_elim (λ h. h.1) (λ h. absurd (h z)) c.else-word-eq48.either) c.if-n-cap.false c.loop-b.invariant.0 c.loop-b.invariant.1

@@ -4,8 +4,8 @@ use Rattle.rows.proofs.Gaps.{not_empty, no_other, zero_alone, not_long, is_gap, 
 use Rattle.rows.proofs.reading.read_gap.Goals as goal
 use Rattle.rows.proofs.reading.read_gap.Goals.{then-byte-lt48-via-then-byte-lt48, then-byte-lt48-via-else-byte-lt48+then-byte-gt57}
 
-pub returns-then-is-empty : goal.returns-then-is-empty
-returns-then-is-empty c = (omega arith, λ g small e. not_empty c.args.word.now g small e (eqb-true _ _ (sym c.if-is-empty.ensures)))
+pub returns-then-is_empty : goal.returns-then-is_empty
+returns-then-is_empty c = (omega arith, λ g small e. not_empty c.args.word.now g small e (eqb-true _ _ (sym c.if-is_empty.ensures)))
 
 pub returns-then-word-gt1 : goal.returns-then-word-gt1
 returns-then-word-gt1 c = (omega arith, λ g small e. omega (arith, zero_alone c.args.word.now g small e c.if-word-eq48.true))
@@ -34,5 +34,5 @@ returns-then-gap-gt-LONGEST-GAP c = (
 
 pub returns : goal.returns
 returns c =
-    let some = eqb-false (length c.args.word.now) 0 (sym c.if-is-empty.ensures) in
+    let some = eqb-false (length c.args.word.now) 0 (sym c.if-is_empty.ensures) in
     is_gap c.args.word.now c.loop-column.column c.loop-column.gap c.loop-column-test.false (omega arith) (λ z. ⊎_elim (λ h. h.1) (λ h. absurd (h z)) c.else-word-eq48.either) c.loop-column.invariant.0 c.loop-column.invariant.2 c.loop-column.invariant.1

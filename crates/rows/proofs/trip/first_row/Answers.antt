@@ -18,10 +18,10 @@ pub loop-byte-init : goal.loop-byte-init
 loop-byte-init c s h e = subst (λ (l : List ℕ). OnlyRow s (ahead c.new-decoder.result l)) (sym e) (begins c.new-decoder.result s h c.new-decoder.ensures.0 c.new-decoder.ensures.1)
 
 pub loop-byte-preserved : goal.loop-byte-preserved
-loop-byte-preserved c s h e = (stepped (at·loop-byte-again c).After-row-in s h e).coming (sym c.row-in.ensures ∙ c.in-default.is)
+loop-byte-preserved c s h e = (stepped (at·loop-byte-again c).After-row_in s h e).coming (sym c.row_in.ensures ∙ c.in_default.is)
 
 pub returns-in-Some : goal.returns-in-Some
-returns-in-Some c s h e = ap Some ((stepped (at·returns-in-Some c).After-row-in s h e).row c.in-Some.sample (sym c.row-in.ensures ∙ c.in-Some.is))
+returns-in-Some c s h e = ap Some ((stepped (at·returns-in-Some c).After-row_in s h e).row c.in-Some.sample (sym c.row_in.ensures ∙ c.in-Some.is))
 
 pub returns : goal.returns
 returns c s h e =

@@ -15,6 +15,6 @@ returns t c =
       | then-n-lt10 w ↦ moved _ _ w.last_is w.out_is (first_digit n before w.if-n-lt10.true (omega (arith, c.told-out)))
       | else-n-lt10 w ↦
           moved _ _ w.last_is w.out_is
-          (next_digit n _ before _ w.if-n-lt10.false (omega arith) (omega (arith, c.told-out, w.put-decimal-last.ensures.few)) w.put-decimal-last.ensures.text)
+          (next_digit n _ before _ w.if-n-lt10.false (omega arith) (omega (arith, c.told-out, w.put_decimal-last.ensures.few)) w.put_decimal-last.ensures.text)
     ] in
     record { text = text; few = omega (arith, text.count, digits_short n (omega arith)) }

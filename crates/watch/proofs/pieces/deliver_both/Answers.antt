@@ -4,8 +4,8 @@ use Rattle.watch.proofs.pieces.deliver_both.Goals as goal
 
 pub returns : goal.returns
 returns g c =
-    let one = c.deliver-pieces-first.ensures in
-    let two = c.deliver-pieces-second.ensures in
+    let one = c.deliver_pieces-first.ensures in
+    let two = c.deliver_pieces-second.ensures in
     record {
       first = one;
       second = two;

@@ -17,7 +17,7 @@ loop-i-init g c = (none, refl)
 pub loop-i-preserved : goal.loop-i-preserved
 loop-i-preserved g c =
     placed _ _ _ c.args.calls.now c.loop-i.answers c.args.answers.now c.loop-i.i _ _
-    (omega (arith, c.min-count.ensures)) (omega (arith, c.min-count.ensures)) c.loop-i.invariant c.answer-to.ensures
+    (omega (arith, c.min-count.ensures)) (omega (arith, c.min-count.ensures)) c.loop-i.invariant c.answer_to.ensures
 
 pub returns : goal.returns
 returns g c =

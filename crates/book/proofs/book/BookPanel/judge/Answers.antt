@@ -22,7 +22,7 @@ loop-i-preserved c =
       count,
       judged_more c.args.sample i c.args.self.now.clauses ds y (get_or ds i z) h (slice_get-get_or ds i z h) c.judge-broken.ensures.after c.judge-broken.ensures.numbered judged,
       found_more i low ds (set ds i y) y c.judge-broken.result (λ k lt. nth_other ds i k y (λ e. omega arith)) (nth_set ds i y h) c.judge-broken.ensures.answer
-          c.loop-i.lost c.with-lost-lost.result found c.with-lost-lost.ensures,
+          c.loop-i.lost c.with_lost-lost.result found c.with_lost-lost.ensures,
     )
 
 pub returns : goal.returns

@@ -11,4 +11,4 @@ loop-i-preserved c =
     let h : i < length cs = omega (arith, c.seated-i-end.ensures, c.loop-i-test.true) in
     let low : i < 64 = omega (arith, c.seated-i-end.ensures, c.loop-i-test.true) in
     found_more i low cs cs (get_or cs i z) c.lost.result (λ k lt. refl) (slice_get-get_or cs i z h) c.lost.ensures
-    c.loop-i.lost c.with-lost-lost.result c.loop-i.invariant c.with-lost-lost.ensures
+    c.loop-i.lost c.with_lost-lost.result c.loop-i.invariant c.with_lost-lost.ensures

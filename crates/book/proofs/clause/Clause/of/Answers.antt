@@ -15,6 +15,6 @@ returns c =
       numbered = refl;
       meaning = λ l.
           by_breaks below (RulesFail line.first line.second) c.of.ensures (fresh_clause clause l) (suc (unwrap_or line.allow 0)) l
-          (subst (λ (n : ℕ). Decides (fresh_clause clause l) (Breaks (Fails below) (suc n) l)) c.unwrap-or-allowed.ensures (c.new.ensures.meaning l));
+          (subst (λ (n : ℕ). Decides (fresh_clause clause l) (Breaks (Fails below) (suc n) l)) c.unwrap_or-allowed.ensures (c.new.ensures.meaning l));
       made = c.new.ensures.made;
     }

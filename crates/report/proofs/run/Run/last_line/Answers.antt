@@ -12,5 +12,5 @@ returns-in-Some c text bytes f =
 
 pub returns-in-None : goal.returns-in-None
 returns-in-None c text bytes f =
-    let count : c.next-number.result - 1 ≡ length (fed_by bytes).samples = omega (arith, c.next-number.ensures.0, next_taken text bytes c.args.self.now f) in
+    let count : c.next_number.result - 1 ≡ length (fed_by bytes).samples = omega (arith, c.next_number.ensures.0, next_taken text bytes c.args.self.now f) in
     c.done.ensures ∙ ap done_line count ∙ ap (λ (o : Option Refusal). last_line o (length (fed_by bytes).samples)) (c.in-None.ensures text bytes f)

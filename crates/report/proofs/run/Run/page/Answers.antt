@@ -15,6 +15,6 @@ returns c text bytes f =
     let same : written - 0 ≡ written = omega arith in
     let whole : slice ≡ listed.notices = ap (λ (n : ℕ). take n c.list-written.new.out) same ∙ all_listed _ _ _ _ _ _ listed refl c.list-written.ensures.few.1 in
     told text bytes run c.args.end _ listed.notices f listed.right
-    (lines_page term slice c.last-line.result _ _ _ c.new-page.ensures.line c.put-notices.ensures.lines c.put.ensures.line
-    ∙ ap (λ (ns : List Notice). page_of (notice_lines term ns) c.last-line.result) whole
-    ∙ ap (page_of (notice_lines term listed.notices)) (c.last-line.ensures text bytes f))
+    (lines_page term slice c.last_line.result _ _ _ c.new-page.ensures.line c.put_notices.ensures.lines c.put.ensures.line
+    ∙ ap (λ (ns : List Notice). page_of (notice_lines term ns) c.last_line.result) whole
+    ∙ ap (page_of (notice_lines term listed.notices)) (c.last_line.ensures text bytes f))

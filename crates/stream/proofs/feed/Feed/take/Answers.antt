@@ -26,11 +26,11 @@ returns-in-1-3 c =
 pub returns-in-2 : goal.returns-in-2
 returns-in-2 c = refuses _ _ _ (is_unused (state_of c.args.self.now) c.args.word c.if-self.false c.in-2.is)
 
-pub returns-in-default-2 : goal.returns-in-default-2
-returns-in-default-2 c = refuses _ _ _ (is_loaded (state_of c.args.self.now) c.args.word c.if-self.false (omega arith) (omega arith))
+pub returns-in_default-2 : goal.returns-in_default-2
+returns-in_default-2 c = refuses _ _ _ (is_loaded (state_of c.args.self.now) c.args.word c.if-self.false (omega arith) (omega arith))
 
-pub returns-in-default-3 : goal.returns-in-default-3
-returns-in-default-3 c = refuses _ _ _ (is_open (state_of c.args.self.now) c.args.word c.if-self.false (omega arith) (omega arith) (omega arith))
+pub returns-in_default-3 : goal.returns-in_default-3
+returns-in_default-3 c = refuses _ _ _ (is_open (state_of c.args.self.now) c.args.word c.if-self.false (omega arith) (omega arith) (omega arith))
 
-pub returns-in-default-4 : goal.returns-in-default-4
-returns-in-default-4 c = takes_end (state_of c.args.self.now) c.args.word _ c.if-self.false (omega arith) (omega arith) (omega arith) c.close.ensures
+pub returns-in_default-4 : goal.returns-in_default-4
+returns-in_default-4 c = takes_end (state_of c.args.self.now) c.args.word _ c.if-self.false (omega arith) (omega arith) (omega arith) c.close.ensures

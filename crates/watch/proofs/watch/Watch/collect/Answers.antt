@@ -21,11 +21,11 @@ returns g c =
       number = c.collect.ensures.number;
     }
 
-pub returns-in-default : goal.returns-in-default
-returns-in-default g c =
+pub returns-in_default : goal.returns-in_default
+returns-in_default g c =
     let l = c.args.self.now.ledger in
     record {
-      took = (refl, none_waiting (number_of l) (collected_of l) c.in-default.ensures, λ k. refl);
+      took = (refl, none_waiting (number_of l) (collected_of l) c.in_default.ensures, λ k. refl);
       feed = refl;
       seats = refl;
       meaning = λ x k. refl;

@@ -8,8 +8,8 @@ use Rattle.watch.proofs.watch.Watch.take.Goals as goal
 pub returns-in-Err : goal.returns-in-Err
 returns-in-Err g c = word_refused _ _ c.args.word _ c.in-Err.ensures (record { seats = refl; meaning = λ l k. refl; number = λ k. refl; collected = λ k. refl })
 
-pub returns-in-default : goal.returns-in-default
-returns-in-default g c = word_plain _ _ c.args.word (subst (λ (o : Option Numbered). Took (state_of c.args.self.now.feed) c.args.word (Ok o) (state_of c.take.new.self)) c.in-default.is c.in-Ok.ensures) (record { seats = refl; meaning = λ l k. refl; number = λ k. refl; collected = λ k. refl })
+pub returns-in_default : goal.returns-in_default
+returns-in_default g c = word_plain _ _ c.args.word (subst (λ (o : Option Numbered). Took (state_of c.args.self.now.feed) c.args.word (Ok o) (state_of c.take.new.self)) c.in_default.is c.in-Ok.ensures) (record { seats = refl; meaning = λ l k. refl; number = λ k. refl; collected = λ k. refl })
 
 pub returns-in-Some : goal.returns-in-Some
 returns-in-Some g c =

@@ -4,8 +4,8 @@ use Rattle.rows.proofs.Readings.{bit_small, one_shifted}
 use Rattle.rows.proofs.reading.letters_at.Goals as goal
 use Rattle.rows.proofs.reading.letters_at.Goals.{then-at-line+then-line-at, else-at-line, else-at-line-via-then-at-line+else-line-at, else-at-line-via-else-at-line}
 
-pub overflow-add-letters : goal.overflow-add-letters
-overflow-add-letters c =
+pub overflow_add-letters : goal.overflow_add-letters
+overflow_add-letters c =
     omega (arith, c.loop-bit.invariant.low, bit_small c.loop-bit.bit c.loop-bit-test.true, one_shifted c.loop-bit.bit c.loop-bit-test.true)
 
 pub loop-bit-init : goal.loop-bit-init

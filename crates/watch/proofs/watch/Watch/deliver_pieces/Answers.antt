@@ -9,7 +9,7 @@ loop-piece-init g c = (rest_start _ (words c.args.pieces.now), omega arith)
 pub loop-piece-preserved : goal.loop-piece-preserved
 loop-piece-preserved g c = (
   piece_more _ _ _ _ _ _ c.loop-piece.piece-index c.args.pieces.now _ _ c.loop-piece-test.true c.loop-piece.invariant.0 c.deliver-taken.ensures.delivered c.in_default.is,
-  omega (arith, c.loop-piece.invariant.1, c.deliver-taken.type-inv),
+  omega (arith, c.loop-piece.invariant.1, c.deliver-taken.type_inv),
 )
 
 pub returns-in-Some : goal.returns-in-Some

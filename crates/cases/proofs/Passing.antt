@@ -14,8 +14,8 @@ use Rattle.grammar.specs.declared.tree.Line.{Line}
 use Rattle.grammar.specs.Books.{book_text, IsBook}
 use Rattle.grammar.specs.Grammar.{Allowed}
 use Rattle.watch.specs.Losses.{bare, number_by}
-use Rattle.watch.specs.Falls.{Lost, Lasting, number_on}
-use Rattle.watch.proofs.Carried.{falls-iff}
+use Rattle.watch.specs.Falls.{Lasting, number_on}
+use Rattle.watch.proofs.Carried.{falls_said}
 use Rattle.watch.proofs.Falling.{numbers_right}
 use Rattle.book.specs.Clauses.{fresh_clause}
 use Rattle.book.specs.Meaning.{ClauseFails}
@@ -52,7 +52,7 @@ fails_lasting line l h k = clause_lasting_new (clause_of line) l h
 
 lost_right : (o : Option ℕ) (line : Line) (T : List Numbered) → lost_on line T ≡ o → LostAt o line T
 lost_right (Some n) line T e =
-    falls-iff {P = Lost (fails line) 0} {Q = ClauseFails line} (clause_means line) 0 T n
+    falls_said (fails line) 0 (ClauseFails line) (clause_means line) 0 T n
     ((numbers_right (fails line) (fails_lasting line) T 0).falls n e)
 lost_right None line T e =
     λ h. both_ways _ ((numbers_right (fails line) (fails_lasting line) T 0).stands e) ((clause_means line (bare T)).1 h)

@@ -15,7 +15,7 @@ use Rattle.monitor.specs.declared.pattern.Pattern.TheVariants.{Never, NeverFrom,
 use Rattle.grammar.specs.declared.tree.Line.{Line}
 use Rattle.grammar.specs.Books.{IsBook}
 use Rattle.watch.specs.Losses.{bare}
-use Rattle.watch.specs.Falls.{FallsFrom}
+use Rattle.watch.specs.Falls.{FallsBy}
 use Rattle.book.specs.Meaning.{ClauseFails}
 
 -- a line of a book, as it is written and as a tree; the number at which a stream begins, and its words; and what is expected: how many
@@ -35,7 +35,7 @@ fed_by x = feeding (numbered_from unread x.start) x.words
 
 -- the line is lost at n: the shortest opening on which it fails ends in the sample numbered n; or it stands: it does not fail
 abbrev pub LostAt : Option ℕ → Line → List Numbered → Type 0
-LostAt (Some n) line T = FallsFrom 0 (ClauseFails line) T n
+LostAt (Some n) line T = FallsBy 0 (ClauseFails line) T n
 LostAt None line T = ClauseFails line (bare T) → ⊥
 
 -- the text, with its line end, is the book of the line; the stream may begin so; and all that is expected holds

@@ -11,12 +11,11 @@ use Rattle.book.specs.Seats.{at_lasting, seat_within}
 use Rattle.watch.specs.declared.story.Call.{Call}
 use Rattle.watch.specs.declared.story.Answer.{Answer}
 use Rattle.watch.specs.Losses.{bare}
-use Rattle.watch.specs.Falls.{Lost}
 use Rattle.watch.specs.Account.{Account, Made}
 use Rattle.watch.specs.Calls.{taken}
 use Rattle.watch.specs.Story.{Story}
 use Rattle.watch.specs.Chains.{Lawful}
-use Rattle.watch.proofs.Carried.{Iff, falls-iff, notices-iff}
+use Rattle.watch.proofs.Carried.{Says, falls_said, said_falls, notices_said}
 use Rattle.watch.proofs.Stories.{chains_tell}
 use Rattle.report.specs.declared.opening.ClauseNumbers.{ClauseNumbers}
 use Rattle.report.specs.Stories.{BookStory, term_at, Opens}
@@ -31,24 +30,21 @@ book_lawful b = record {
 
 module _ (b : Book) (ls : List Line) (holds : Holds b ls) where
   -- what the book fails is what its lines say
-  pub by_lines : (k : ℕ) (l : List Sample) → Iff (Lost (book_fails b) k l) (SeatFails ls k l)
+  pub by_lines : (k : ℕ) → Says (book_fails b) k (SeatFails ls k)
   by_lines k l = ((holds.meaning l k).0, (holds.meaning l k).1)
-
-  to_book : (k : ℕ) (l : List Sample) → Iff (SeatFails ls k l) (Lost (book_fails b) k l)
-  to_book k l = ((holds.meaning l k).1, (holds.meaning l k).0)
 
   not_failing : (k : ℕ) (l : List Sample) → (SeatFails ls k l → ⊥) → book_fails b l k ≡ false
   not_failing k l stands = elim (cases_Bool (book_fails b l k)) [ inl t ↦ absurd (stands ((by_lines k l).0 t)) | inr f ↦ f ]
 
   story_by_lines : (cs : List Call) (given : List Answer) (w : Account) → Story (book_fails b) cs given w → BookStory ls cs given w
   story_by_lines cs given w s = record {
-    lost = λ k n e. falls-iff (by_lines k) 0 (taken cs) n (s.lost k n e);
-    falls = λ k n f. s.falls k n (falls-iff (to_book k) 0 (taken cs) n f);
-    stands = λ k e f. both_ways (book_fails b (bare (taken cs)) k) (s.stands k e) ((to_book k (bare (taken cs))).0 f);
+    lost = λ k n e. falls_said (book_fails b) k (SeatFails ls k) (by_lines k) 0 (taken cs) n (s.lost k n e);
+    falls = λ k n f. s.falls k n (said_falls (book_fails b) k (SeatFails ls k) (by_lines k) 0 (taken cs) n f);
+    stands = λ k e f. both_ways (book_fails b (bare (taken cs)) k) (s.stands k e) ((by_lines k (bare (taken cs))).1 f);
     safe = λ k f. s.safe k (not_failing k (bare (taken cs)) f);
     waiting = s.waiting;
     waits = s.waits;
-    notices = notices-iff by_lines (taken cs) _ s.notices;
+    notices = notices_said (book_fails b) (SeatFails ls) by_lines (taken cs) _ s.notices;
   }
 
   pub opened : (text : List ℕ) (a : Account) (t : ClauseNumbers) → IsBook text ls → Made (book_fails b) (seats_of b) a

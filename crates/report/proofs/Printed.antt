@@ -5,9 +5,10 @@ use Rattle.stream.specs.Words.{State, unread, feeding}
 use Rattle.watch.specs.declared.notice.Notice.{Notice}
 use Rattle.printout.specs.Lines.{header_line, notice_line}
 use Rattle.watch.specs.Order.{Waits, Listing}
-use Rattle.watch.proofs.Carried.{notices-iff}
+use Rattle.watch.proofs.Carried.{notices_said}
 use Rattle.watch.proofs.Held.{kept_start, kept_deliver}
 use Rattle.watch.proofs.Stories.{left}
+use Rattle.book.specs.Books.{SeatFails}
 use Rattle.book.specs.Seating.{seats_of, book_fails}
 use Rattle.report.specs.declared.run.Run.{Run}
 use Rattle.report.specs.declared.run.Ending.{Ending}
@@ -61,5 +62,5 @@ told text bytes run end out ns f waits is =
     let F = book_fails o.panel in
     let kept = kept_deliver F _ _ _ f.start (watched run) (words_in bytes) f.count run.refused (kept_start F (seats_of o.panel) f.start o.made) f.delivered in
     let lost = left F (seats_of o.panel) (book_lawful o.panel) kept ns waits in
-    judged o.lines ns o.book (notices-iff (by_lines o.panel o.lines o.holds) (fed_by bytes).samples ns lost)
+    judged o.lines ns o.book (notices_said F (SeatFails o.lines) (by_lines o.panel o.lines o.holds) (fed_by bytes).samples ns lost)
     (is ∙ ap (λ (ls : List (List ℕ)). page_of ls (last_line (stop_by bytes end) (length (fed_by bytes).samples))) (same_terms (term_at run.terms) (term_of o.lines) o.terms ns))

@@ -11,7 +11,7 @@ use Rattle.grammar.specs.Books.{IsBook, BookFault}
 use Rattle.book.specs.Books.{SeatFails}
 use Rattle.watch.specs.declared.notice.Notice.{Notice}
 use Rattle.watch.specs.Words.{refusal_in}
-use Rattle.watch.specs.Story.{Notices}
+use Rattle.watch.specs.Story.{NoticesBy}
 use Rattle.printout.specs.Lines.{header_line, notice_line, done_line, stop_line}
 use Rattle.report.specs.declared.run.Ending.{Ending}
 use Rattle.report.specs.declared.run.Ending.TheVariants.{Complete, Unreadable}
@@ -50,7 +50,7 @@ stop_page r = page_of [] (stop_line (number_of r))
 -- what is printed of a book's text, and then of the bytes of a trace, whose reading ended so: where the text is a book's, the notices of
 -- the seats that are lost on the samples taken, by number and then seat; and where it has a fault, nothing but that
 pub data Reported (text bytes : List ℕ) (end : Ending) (out : List ℕ) : Type 0 where
-  judged : (ls : List Line) (ns : List Notice) → IsBook text ls → Notices (SeatFails ls) (fed_by bytes).samples ns
+  judged : (ls : List Line) (ns : List Notice) → IsBook text ls → NoticesBy (SeatFails ls) (fed_by bytes).samples ns
       → out ≡ page_of (notice_lines (term_of ls) ns) (last_line (stop_by bytes end) (length (fed_by bytes).samples)) → Reported text bytes end out
   faulty : (f : Fault) → BookFault text f → out ≡ stop_page (refusal_of f) → Reported text bytes end out
 

@@ -10,25 +10,25 @@ use Rattle.watch.specs.declared.notice.Notice.{Notice}
 use Rattle.watch.specs.declared.story.Call.{Call}
 use Rattle.watch.specs.declared.story.Answer.{Answer}
 use Rattle.watch.specs.Losses.{bare}
-use Rattle.watch.specs.Falls.{FallsFrom}
+use Rattle.watch.specs.Falls.{FallsBy}
 use Rattle.watch.specs.Order.{Waits}
 use Rattle.watch.specs.Account.{Account, Made}
 use Rattle.watch.specs.Calls.{taken, collected_in}
-use Rattle.watch.specs.Story.{Notices, Story}
+use Rattle.watch.specs.Story.{NoticesBy, Story}
 use Rattle.watch.specs.Chains.{Chain}
 use Rattle.report.specs.declared.opening.ClauseNumbers.{ClauseNumbers}
 
 -- after the calls cs with these answers, the watch b on the book of the lines ls: a seat is lost exactly when what its line says fails
 -- on the samples taken, and its number is that of the last sample in the shortest opening that fails it, or 0 if that is empty
 pub record BookStory (ls : List Line) (cs : List Call) (given : List Answer) (b : Account) : Type 0 where
-  pub lost : (k n : ℕ) → b.number k ≡ Some n → FallsFrom 0 (SeatFails ls k) (taken cs) n
-  pub falls : (k n : ℕ) → FallsFrom 0 (SeatFails ls k) (taken cs) n → b.number k ≡ Some n
+  pub lost : (k n : ℕ) → b.number k ≡ Some n → FallsBy 0 (SeatFails ls k) (taken cs) n
+  pub falls : (k n : ℕ) → FallsBy 0 (SeatFails ls k) (taken cs) n → b.number k ≡ Some n
   pub stands : (k : ℕ) → b.number k ≡ None → SeatFails ls k (bare (taken cs)) → ⊥
   pub safe : (k : ℕ) → (SeatFails ls k (bare (taken cs)) → ⊥) → b.number k ≡ None
   -- the notices collected, then those waiting, are the notices of the lost seats
   pub waiting : List Notice
   pub waits : Waits b.number b.collected waiting
-  pub notices : Notices (SeatFails ls) (taken cs) (collected_in given ++ waiting)
+  pub notices : NoticesBy (SeatFails ls) (taken cs) (collected_in given ++ waiting)
 
 -- the clause number of seat k, or 0 where there is no such seat: by the lines, and by a table of the numbers
 abbrev pub term_of : List Line → ℕ → ℕ

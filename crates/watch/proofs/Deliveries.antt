@@ -27,7 +27,7 @@ delivered a b ws f e state seats meaning number collected = record {
 }
 
 -- no words
-nothing : (a : Account) → Delivered a [] a 0 None
+pub nothing : (a : Account) → Delivered a [] a 0 None
 unfolding feeding number_by
 nothing a = delivered a a [] _ refl refl refl (λ l k. refl) (λ k. refl) (λ k. refl)
 

@@ -11,3 +11,4 @@ pub mod Ranges
 pub mod Held
 pub mod Stories
 pub mod Plays
+pub mod Carried

@@ -58,7 +58,7 @@ module _ (F : List Sample → ℕ → Bool) (count : ℕ) (law : Lawful F count)
         let p = law.within _ m.seat f.fails in (p.0, omega (arith, p.1, law.size.1))
 
     -- with those collected, whatever waits completes the notices of the lost seats
-    left : (ns : List Notice) → Waits b.number b.collected ns → Notices F T (C ++ ns)
+    pub left : (ns : List Notice) → Waits b.number b.collected ns → Notices F T (C ++ ns)
     left ns w = record {
       sorted = sorted-++ C ns h.gone.sorted w.sorted (λ n m i j. h.gone.ahead n m i (w.each m j));
       each = λ n i. ⊎_elim (λ j. falls n.seat n.number (h.gone.each n j).0) (λ j. falls n.seat n.number (w.each n j).0) (in_cases n C ns i);

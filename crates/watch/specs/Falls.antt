@@ -22,6 +22,15 @@ pub record FallsFrom (m : ℕ) (F : List Sample → ℕ → Bool) (T : List Numb
 abbrev pub Falls : (List Sample → ℕ → Bool) → List Numbered → ℕ → ℕ → Type 0
 Falls F T k n = FallsFrom 0 F T k n
 
+-- the same for what fails by a predicate P, as by a sentence
+pub record FallsBy (m : ℕ) (P : List Sample → Type 0) (T : List Numbered) (n : ℕ) : Type 0 where
+  pub front : List Numbered
+  pub rest : List Numbered
+  pub splits : T ≡ front ++ rest
+  pub fails : P (bare front)
+  pub shortest : (X Y : List Numbered) → front ≡ X ++ Y → P (bare X) → Y ≡ []
+  pub number : n ≡ last_or m front
+
 -- a seat that is lost on a list is lost on each that begins with it
 abbrev pub Lasting : (List Sample → ℕ → Bool) → Type 0
 Lasting F = (l h : List Sample) (k : ℕ) → F l k ≡ true → F (l ++ h) k ≡ true

@@ -9,7 +9,7 @@ use Rattle.watch.specs.declared.notice.Notice.{Notice}
 use Rattle.watch.specs.declared.story.Call.{Call}
 use Rattle.watch.specs.declared.story.Answer.{Answer}
 use Rattle.watch.specs.Losses.{bare}
-use Rattle.watch.specs.Falls.{Falls}
+use Rattle.watch.specs.Falls.{FallsBy, Falls}
 use Rattle.watch.specs.Order.{In, Sorted, Waits}
 use Rattle.watch.specs.Account.{Account}
 use Rattle.watch.specs.Calls.{read_after, taken, collected_in, Matched, Shows}
@@ -19,6 +19,12 @@ pub record Notices (F : List Sample → ℕ → Bool) (T : List Numbered) (ns : 
   pub sorted : Sorted ns
   pub each : (n : Notice) → In n ns → Falls F T n.seat n.number
   pub all : (n : Notice) → Falls F T n.seat n.number → In n ns
+
+-- the same where P says of each seat on which lists it fails
+pub record NoticesBy (P : ℕ → List Sample → Type 0) (T : List Numbered) (ns : List Notice) : Type 0 where
+  pub sorted : Sorted ns
+  pub each : (n : Notice) → In n ns → FallsBy 0 (P n.seat) T n.number
+  pub all : (n : Notice) → FallsBy 0 (P n.seat) T n.number → In n ns
 
 -- there is only one such list
 abbrev pub OneList : Type 0

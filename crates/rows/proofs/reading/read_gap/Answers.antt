@@ -26,8 +26,8 @@ loop-column-preserved c = (
   below_more _ _ c.loop-column.invariant.2 (c.if-byte-lt48.false, c.if-byte-gt57.false),
 )
 
-pub returns-then-gap-gt-LONGEST-GAP : goal.returns-then-gap-gt-LONGEST-GAP
-returns-then-gap-gt-LONGEST-GAP c = (
+pub returns-then-gap-gt-LONGEST_GAP : goal.returns-then-gap-gt-LONGEST_GAP
+returns-then-gap-gt-LONGEST_GAP c = (
   omega arith,
   λ g small e. omega (arith, not_long c.args.word.now g small e (c.loop-column.column + 1), value_turn c.args.word.now c.loop-column.column c.loop-column.gap c.loop-column-test.true c.if-byte-lt48.false c.if-byte-gt57.false c.loop-column.invariant.0),
 )

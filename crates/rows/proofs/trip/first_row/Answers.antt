@@ -5,9 +5,9 @@ use Rattle.rows.specs.Rows.{Sendable}
 use Rattle.rows.specs.Traces.{sample_bytes}
 use Rattle.rows.proofs.Trips.{ahead, OnlyRow, Step, begins, ends, steps}
 use Rattle.rows.proofs.trip.first_row.Goals as goal
-use Rattle.rows.proofs.trip.first_row.Goals.{After-row-in, at·loop-byte-again, at·returns-in-Some}
+use Rattle.rows.proofs.trip.first_row.Goals.{After-row_in, at-returns-in-Some}
 
-stepped : (c : After-row-in) (s : Sample) → Sendable s → c.args.bytes.now ≡ sample_bytes s → Step s c.push.result (ahead c.push.new.self (drop (c.loop-byte.byte-index + 1) c.args.bytes.now))
+stepped : (c : After-row_in) (s : Sample) → Sendable s → c.args.bytes.now ≡ sample_bytes s → Step s c.push.result (ahead c.push.new.self (drop (c.loop-byte.byte-index + 1) c.args.bytes.now))
 stepped c s h e =
     let bytes = c.args.bytes.now in
     let i = c.loop-byte.byte-index in
@@ -18,10 +18,10 @@ pub loop-byte-init : goal.loop-byte-init
 loop-byte-init c s h e = subst (λ (l : List ℕ). OnlyRow s (ahead c.new-decoder.result l)) (sym e) (begins c.new-decoder.result s h c.new-decoder.ensures.0 c.new-decoder.ensures.1)
 
 pub loop-byte-preserved : goal.loop-byte-preserved
-loop-byte-preserved c s h e = (stepped (at·loop-byte-again c).After-row_in s h e).coming (sym c.row_in.ensures ∙ c.in_default.is)
+loop-byte-preserved c s h e = (stepped (goal.at.loop-byte-preserved c).After-row_in s h e).coming (sym c.row_in.ensures ∙ c.in_default.is)
 
 pub returns-in-Some : goal.returns-in-Some
-returns-in-Some c s h e = ap Some ((stepped (at·returns-in-Some c).After-row_in s h e).row c.in-Some.sample (sym c.row_in.ensures ∙ c.in-Some.is))
+returns-in-Some c s h e = ap Some ((stepped (at-returns-in-Some c).After-row_in s h e).row c.in-Some.sample (sym c.row_in.ensures ∙ c.in-Some.is))
 
 pub returns : goal.returns
 returns c s h e =

@@ -12,9 +12,9 @@ returns t c =
     let moved : (last : ℕ) (out : List ℕ) → c.if-n-lt10.last ≡ last → c.if-n-lt10.out ≡ out → made last out → made c.if-n-lt10.last c.if-n-lt10.out = λ last out l o m. subst (λ (k : ℕ). made k c.if-n-lt10.out) (sym l) (subst (made last) (sym o) m) in
     let text : made c.if-n-lt10.last c.if-n-lt10.out =
     elim c.if-n-lt10.branch [
-      | then-n-lt10 w ↦ moved _ _ w.last_is w.out_is (first_digit n before w.if-n-lt10.true (omega (arith, c.told-out)))
+      | then-n-lt10 w ↦ moved _ _ w.last-is w.out-is (first_digit n before w.if-n-lt10.true (omega (arith, c.told-out)))
       | else-n-lt10 w ↦
-          moved _ _ w.last_is w.out_is
+          moved _ _ w.last-is w.out-is
           (next_digit n _ before _ w.if-n-lt10.false (omega arith) (omega (arith, c.told-out, w.put_decimal-last.ensures.few)) w.put_decimal-last.ensures.text)
     ] in
     record { text = text; few = omega (arith, text.count, digits_short n (omega arith)) }

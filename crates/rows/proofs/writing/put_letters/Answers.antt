@@ -24,10 +24,10 @@ loop-letter-preserved c =
     let moved : (out : List ℕ) (end : ℕ) → c.if-bits-eq1.out ≡ out → c.if-bits-eq1.end ≡ end → made out end → made c.if-bits-eq1.out c.if-bits-eq1.end = λ out end o e m. subst (λ (l : List ℕ). made l c.if-bits-eq1.end) (sym o) (subst (made out) (sym e) m) in
     elim c.if-bits-eq1.branch [
       | then-bits-eq1 w ↦
-          moved _ _ w.out_is w.end-is
+          moved _ _ w.out-is w.end-is
           (writes_letter before whole c.loop-letter.out _ letter _ (omega arith) c.told-out c.loop-letter.invariant w.if-bits-eq1.true)
       | else-bits-eq1 w ↦
-          moved _ _ w.out_is w.end-is
+          moved _ _ w.out-is w.end-is
           (leaves_letter before whole c.loop-letter.out _ letter _ (omega arith) c.told-out c.loop-letter.invariant (omega (arith, w.if-bits-eq1.false)))
     ]
 

@@ -163,7 +163,7 @@ impl Second {
                 })?;
             }
         }
-        losses.sort();
+        losses.sort()?;
         Ok(losses)
     }
 

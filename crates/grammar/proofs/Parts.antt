@@ -11,7 +11,7 @@ use Rattle.grammar.specs.Words.{unwords}
 use Rattle.grammar.specs.Numbers.{number_of, ticks_of, clause_of}
 use Rattle.grammar.specs.Tokens.{key_word, signal_of}
 use Rattle.grammar.specs.Grammar.{signal_word}
-use Rattle.grammar.specs.Reading.{Ws, Read, got, bad, and_then, gives, made, refuse, or_bad, one, read_number, read_ticks, read_clause, read_signal, starts_by, if_next, read_key}
+use Rattle.grammar.specs.Reading.{Ws, Read, got, bad, and_then, gives, made, refuse, or_bad, read_number, read_ticks, read_clause, read_signal, starts_by, if_next, read_key}
 use Rattle.grammar.proofs.Same.{ticks_read, clause_read}
 use Rattle.grammar.proofs.Spelled.{Digit, number_spelled, number_reads, signal_spelled, signal_reads, signal_digit}
 use Rattle.grammar.proofs.Keys.{starts_spelled, starts_self, starts_digit}

@@ -1,5 +1,5 @@
 -- Where reading stops: what was read goes on to a whole reading, and the word that stopped it stops every other with the same front.
-use Rattle.std.proofs.Common.{◌≡◌, ℕ, ◌+◌, ◌-◌, ◌≤◌, not, ◌⊎◌, List, [], ◌∷◌, ◌++◌, length, Some, None, decimal, Option, sym, refl, ap, ◌∙◌, subst, inl, inr, ⊎_elim, append_assoc, arith}
+use Rattle.std.proofs.Common.{◌≡◌, ℕ, ◌≤◌, ◌⊎◌, List, [], ◌∷◌, ◌++◌, length, Some, None, decimal, Option, sym, refl, ap, ◌∙◌, subst, inl, inr, ⊎_elim, append_assoc, arith}
 use Rattle.grammar.specs.declared.snag.Cause.{Cause}
 use Rattle.grammar.specs.declared.snag.Cause.TheVariants.{WordNotAllowed, WordMissing, NumberOwed}
 use Rattle.grammar.specs.Words.{unwords}

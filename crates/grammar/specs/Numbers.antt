@@ -1,5 +1,5 @@
 -- How a word is read as a number.
-use Rattle.std.specs.Prelude.{ℕ, ◌≤◌, min, max, Bool, cond, not, ◌&&◌, List, length, Some, None, Option, ◌==◌, nat_le, nat_lt, slice_index}
+use Rattle.std.specs.Prelude.{ℕ, min, max, Bool, cond, not, ◌&&◌, List, length, Some, None, Option, ◌==◌, nat_le, nat_lt, slice_index}
 use Rattle.std.proofs.Math.Nat.{min-le_right, le-max_left, max-le}
 use Rattle.std.proofs.Common.{lit≤}
 use Rattle.std.specs.Str.Parse.{digits_value}

@@ -85,8 +85,8 @@ fn books_and_their_lines(rt: HostRuntime) -> Result<(), Fail> {
         read(b"1 never a\n2 never a from 0\n7 hold !* least 10\n8 repeat a within 1\n")?,
         (0, 4, 8)
     );
-    assert_eq!(rt; line_of(b"ab\n\ncd\ne", 3)?, b"cd");
-    assert_eq!(rt; line_of(b"ab\n\ncd\ne", 2)?, b"");
+    assert_eq!(rt; line_of(b"ab\n\ncd\ne", 3)?, b"cd".as_slice());
+    assert_eq!(rt; line_of(b"ab\n\ncd\ne", 2)?, b"".as_slice());
     assert!(rt; line_of(b"ab\n\ncd\ne", 4).is_err());
     assert!(rt; line_of(b"ab\n", 0).is_err());
     Ok(())

@@ -1,5 +1,5 @@
 -- never p, and never p from t.
-use Rattle.std.proofs.Common.{◌≡◌, ℕ, zero, suc, ◌-◌, List, refl, ap, arith}
+use Rattle.std.proofs.Common.{◌≡◌, ℕ, zero, suc, List, refl, ap, arith}
 use Rattle.monitor.specs.declared.clock.Clock.{Clock}
 use Rattle.monitor.specs.declared.clock.Clock.TheVariants.{Stopped, Running}
 use Rattle.std.proofs.lemmas.Bool.{and_parts, and_from}
@@ -10,7 +10,6 @@ use Rattle.monitor.specs.declared.pattern.Pattern.TheVariants.{Never, NeverFrom}
 use Rattle.monitor.specs.Clocks.{begun}
 use Rattle.monitor.specs.Sentences.{Sentence}
 use Rattle.monitor.specs.Runs.{clock_at, Fault}
-use Rattle.monitor.proofs.Times.{from}
 use Rattle.monitor.proofs.Readings.{Counting, Says, starts, goes_on, later, says, reached_true, reached_from}
 
 pub never_sound : (p : Signal) (l : List Sample) → Fault (Never p) l → Sentence (Never p) l

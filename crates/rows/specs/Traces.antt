@@ -1,11 +1,11 @@
 -- Samples as the bytes of a trace, and what is read of bytes.
-use Rattle.std.specs.Prelude.{◌≡◌, ℕ, ◌+◌, ◌*◌, ◌^◌, ◌≤◌, cond, List, [], ◌∷◌, ◌++◌, map, length, Some, None, Ok, Err, Option, Result, MatchResult, ◌==◌}
+use Rattle.std.specs.Prelude.{◌≡◌, ℕ, ◌*◌, ◌≤◌, cond, List, [], ◌∷◌, ◌++◌, map, length, Some, None, Ok, Err, Option, Result, MatchResult, ◌==◌}
 use Rattle.std.specs.List.{flat_map, AllByRecursion as All}
 use Rattle.stream.specs.declared.refusal.Refusal.{Refusal}
 use Rattle.stream.specs.declared.sample.Sample.{Sample}
 use Rattle.stream.specs.declared.numbered.Numbered.{Numbered}
 use Rattle.stream.specs.Bytes.{held_by, bytes_of}
-use Rattle.stream.specs.Words.{State, state_of, unread, kind, last_number, Took, Fed, feeding}
+use Rattle.stream.specs.Words.{State, state_of, kind, last_number, Took}
 use Rattle.stream.specs.Sending.{sample_words}
 use Rattle.stream.specs.Traces.{fed_by}
 use Rattle.rows.specs.declared.slip.Slip.{Slip}

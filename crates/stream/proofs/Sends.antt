@@ -6,7 +6,7 @@ use Rattle.std.proofs.lemmas.Bool.{lt-ltb, le-ltb, eqb-true}
 use Rattle.stream.specs.declared.refusal.Refusal.{Refusal}
 use Rattle.stream.specs.declared.refusal.Refusal.TheVariants.{HighLetter, ListTooShort}
 use Rattle.stream.specs.Refusals.{when, first_of}
-use Rattle.stream.specs.Words.{State, Fed, feeding, onward, refusal, made, after, kind, load, longest_gap, last_number, sample_in}
+use Rattle.stream.specs.Words.{State, feeding, onward, made, after, kind, load, longest_gap, last_number, sample_in}
 use Rattle.stream.specs.Sending.{full_gap, full_words, remainder, last_gap, words_of, sample_words, too_short, Put, Sent, ReadAs, ReadsBack}
 use Rattle.stream.proofs.Checks.{is_gap, is_sample, made_none}
 

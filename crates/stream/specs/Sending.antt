@@ -4,7 +4,7 @@ use Rattle.stream.specs.declared.refusal.Refusal.{Refusal}
 use Rattle.stream.specs.declared.refusal.Refusal.TheVariants.{HighLetter, ListTooShort}
 use Rattle.stream.specs.declared.sample.Sample.{Sample}
 use Rattle.stream.specs.Refusals.{when, first_of}
-use Rattle.stream.specs.Words.{State, Fed, feeding, last_number}
+use Rattle.stream.specs.Words.{State, feeding, last_number}
 
 -- the largest gap that one word can hold
 abbrev pub full_gap : ℕ

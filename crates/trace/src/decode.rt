@@ -23,7 +23,7 @@ pub(crate) fn decode_file(rt: &HostRuntime, trace: &str) -> anyhow::Result<()> {
         return explain(rt, trace, Stop::Unreadable);
     };
     let mut out = BufWriter::new(rt.alloc(), rt.stdout())?;
-    let read = decode_bytes(source, &mut out);
+    let read = decode_bytes(BufReader::new(rt.alloc(), source)?, &mut out);
     out.flush()?;
     match read {
         Ok(()) => Ok(()),
@@ -31,10 +31,10 @@ pub(crate) fn decode_file(rt: &HostRuntime, trace: &str) -> anyhow::Result<()> {
     }
 }
 
-fn decode_bytes(source: File, out: &mut impl Write) -> Result<(), Stop> {
+fn decode_bytes(source: BufReader<File>, out: &mut impl Write) -> Result<(), Stop> {
     let mut decoder = Decoder::new();
     let mut count: u64 = 0;
-    for byte in BufReader::new(source).bytes() {
+    for byte in source.bytes() {
         let Ok(byte) = byte else {
             return Err(Stop::Unreadable);
         };

@@ -33,19 +33,25 @@ fn make_trace(rt: &HostRuntime, lines: &str, trace: &str) -> Result<(), Failure>
     let Ok(target) = File::create(rt, trace) else {
         return Err(Failure::Unwritable);
     };
-    encode_lines(source, &mut BufWriter::new(target))
+    let Ok(mut out) = BufWriter::new(rt.alloc(), target) else {
+        return Err(Failure::Unwritable);
+    };
+    encode_lines(source, &mut out)
 }
 
-fn open(rt: &HostRuntime, path: &str) -> Result<File, Failure> {
-    match File::open(rt, path) {
-        Ok(file) => Ok(file),
+fn open(rt: &HostRuntime, path: &str) -> Result<BufReader<File>, Failure> {
+    let Ok(file) = File::open(rt, path) else {
+        return Err(Failure::Unreadable);
+    };
+    match BufReader::new(rt.alloc(), file) {
+        Ok(source) => Ok(source),
         Err(_) => Err(Failure::Unreadable),
     }
 }
 
-fn encode_lines(source: File, out: &mut impl Write) -> Result<(), Failure> {
+fn encode_lines(source: BufReader<File>, out: &mut impl Write) -> Result<(), Failure> {
     let mut encoder = Encoder::new();
-    for byte in BufReader::new(source).bytes() {
+    for byte in source.bytes() {
         let Ok(byte) = byte else {
             return Err(Failure::Unreadable);
         };

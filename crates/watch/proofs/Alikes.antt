@@ -1,5 +1,5 @@
 -- Watches that are alike list and collect the same.
-use Rattle.std.proofs.Common.{◌≡◌, ℕ, min, Bool, ◌||◌, eqb, List, [], ◌∷◌, ◌++◌, length, take, drop, Ok, Err, Result, sym, refl, ap, ◌∙◌, ap₂, arith}
+use Rattle.std.proofs.Common.{◌≡◌, ℕ, min, Bool, ◌||◌, eqb, List, [], ◌∷◌, ◌++◌, length, take, drop, Ok, Err, Result, sym, ap, ◌∙◌, ap₂, arith}
 use Rattle.stream.specs.declared.refusal.Refusal.{Refusal}
 use Rattle.watch.specs.declared.notice.Notice.{Notice}
 use Rattle.watch.specs.Order.{Waits}

@@ -1,8 +1,7 @@
 use Rattle.std.proofs.Common.{◌≡◌, ◌<◌, ap, ◌∙◌, subst}
-use Rattle.stream.specs.declared.sample.Sample.{Sample}
 use Rattle.stream.specs.declared.signal.Signal.{Signal}
 use Rattle.stream.specs.declared.signal.Source.TheVariants.{Letter}
-use Rattle.stream.specs.Signals.{bare_signal, letter_signal, holds_at}
+use Rattle.stream.specs.Signals.{bare_signal, holds_at}
 use Rattle.stream.proofs.Same.{same_letter}
 use Rattle.stream.proofs.signal.Signal.letter.Goals as goal
 

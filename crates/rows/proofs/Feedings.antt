@@ -1,6 +1,6 @@
 -- What is sent comes back: words of bytes, and what a feed makes of them.
 use Rattle.std.proofs.Common.{◌≡◌, ℕ, suc, ◌+◌, ◌*◌, ◌/◌, ◌%◌, ◌^◌, ◌≤◌, true, false, List, [], ◌∷◌, ◌++◌, map, length, Some, None, Option, sym, refl, ap, ◌∙◌, subst, zero-add, arith, length-append}
-use Rattle.std.specs.List.{flat_map, AllByRecursion as All}
+use Rattle.std.specs.List.{flat_map, AllByRecursion}
 use Rattle.std.specs.Option.{option_to_list}
 use Rattle.std.proofs.lemmas.List.{append_assoc, append-nil}
 use Rattle.stream.specs.declared.refusal.Refusal.{Refusal}
@@ -72,7 +72,7 @@ pub record AllBack (ss : List Sample) (fed : Fed) : Type 0 where
   pub count : fed.count ≡ length (sent_words ss)
   pub samples : map (λ x. x.sample) fed.samples ≡ ss
 
-words_come_back : (ss : List Sample) (s : State) → All Sendable ss → s.pending ≡ 0 → s.ended ≡ false → s.next + length ss ≤ last_number + 1 → AllBack ss (feeding s (sent_words ss))
+words_come_back : (ss : List Sample) (s : State) → AllByRecursion Sendable ss → s.pending ≡ 0 → s.ended ≡ false → s.next + length ss ≤ last_number + 1 → AllBack ss (feeding s (sent_words ss))
 unfolding feeding
 words_come_back [] s hs p e n = record { taken = refl; count = refl; samples = refl }
 words_come_back (x ∷ ss) s hs p e n =

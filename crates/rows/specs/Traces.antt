@@ -1,6 +1,6 @@
 -- Samples as the bytes of a trace, and what is read of bytes.
 use Rattle.std.specs.Prelude.{◌≡◌, ℕ, ◌*◌, ◌≤◌, cond, List, [], ◌∷◌, ◌++◌, map, length, Some, None, Ok, Err, Option, Result, MatchResult, ◌==◌}
-use Rattle.std.specs.List.{flat_map, AllByRecursion as All}
+use Rattle.std.specs.List.{flat_map, AllByRecursion}
 use Rattle.stream.specs.declared.refusal.Refusal.{Refusal}
 use Rattle.stream.specs.declared.sample.Sample.{Sample}
 use Rattle.stream.specs.declared.numbered.Numbered.{Numbered}
@@ -76,8 +76,8 @@ pub record Back (ss : List Sample) (bytes : List ℕ) : Type 0 where
 
 -- what is sent comes back, as long as there are numbers for it
 abbrev pub TracesComeBack : Type 0
-TracesComeBack = (ss : List Sample) → All Sendable ss → length ss ≤ last_number → Back ss (trace_of ss)
+TracesComeBack = (ss : List Sample) → AllByRecursion Sendable ss → length ss ≤ last_number → Back ss (trace_of ss)
 
 -- a text is that of no two lists
 abbrev pub TextsTell : Type 0
-TextsTell = (ss ts : List Sample) → All Sendable ss → All Sendable ts → text_of ss ≡ text_of ts → ss ≡ ts
+TextsTell = (ss ts : List Sample) → AllByRecursion Sendable ss → AllByRecursion Sendable ts → text_of ss ≡ text_of ts → ss ≡ ts

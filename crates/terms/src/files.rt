@@ -1,8 +1,7 @@
-use panel::Panel;
+use report::{Ending, Run};
 use std::fs::File;
 use std::io::Read;
-use stream::{Assembler, Refusal};
-use watch::Watch;
+use stream::Refusal;
 
 /// The front of a file, as far as the longest text and one byte more.
 #[derive(Drop)]
@@ -60,40 +59,23 @@ fn fill(file: &mut File, room: &mut [u8]) -> Option<usize> {
     Some(len)
 }
 
-/// Delivers the words of a file, read in pieces, up to the first that is refused.
-pub(crate) fn deliver_file<P: Panel>(
-    rt: &HostRuntime,
-    path: &str,
-    watch: &mut Watch<P>,
-) -> Result<(), Refusal> {
+/// Has a run go through the bytes of a file, read in pieces, up to its end or the first word that is refused.
+pub(crate) fn follow_file(rt: &HostRuntime, path: &str, run: &mut Run) -> Ending {
     let Ok(mut file) = File::open(rt, path) else {
-        return Err(Refusal::UnreadableFile);
+        return Ending::Unreadable;
     };
     let mut piece = [0u8; 16384];
-    let mut words = Assembler::new();
     for _ in 0..u64::MAX {
         let Ok(count) = file.read(&mut piece) else {
-            return Err(Refusal::UnreadableFile);
+            return Ending::Unreadable;
         };
         if count == 0 {
             break;
         }
-        deliver_bytes(&piece[0..count], &mut words, watch)?;
-    }
-    words.finish()
-}
-
-fn deliver_bytes<P: Panel>(
-    bytes: &[u8],
-    words: &mut Assembler,
-    watch: &mut Watch<P>,
-) -> Result<(), Refusal> {
-    for byte in bytes {
-        if let Some(word) = words.push(*byte) {
-            if let (_, Some(refusal)) = watch.deliver(&[word]) {
-                return Err(refusal);
-            }
+        run.read(&piece[0..count]);
+        if run.refused().is_some() {
+            break;
         }
     }
-    Ok(())
+    Ending::Complete
 }

@@ -1,4 +1,5 @@
-//! Watches the samples of `trace.bin` by the book of terms in `terms.txt`, both in the working directory, and prints where each clause broke.
+//! Watches the samples of a trace by a book of terms, and prints where each clause broke: `terms [TERMS [TRACE]]`.
+//! What it prints is the crate `report`'s; here files are read, and what a STOP means is said on standard error.
 
 #![tactic(auto)]
 
@@ -8,90 +9,102 @@ mod files;
 mod tests;
 
 use crate::expected::expected_at;
-use crate::files::{Text, deliver_file};
+use crate::files::{Text, follow_file};
 use anyhow::anyhow;
-use book::Book;
 use grammar::Fault;
-use std::io;
+use report::{Page, Run};
 use std::io::Write;
+use std::{env, io};
 use stream::Refusal;
-use watch::{Notice, Watch};
 
 const TERMS: &str = "terms.txt";
 
 const TRACE: &str = "trace.bin";
 
-fn print_line(rt: &HostRuntime, line: &[u8; 17]) -> io::Result<()> {
-    rt.stdout().write_all(line)?;
-    rt.stdout().write_all(b"\n")
+const HELP: &str = "\
+usage: terms [TERMS [TRACE]]
+       terms --help
+
+Watches the samples of a trace by a book of terms, and prints where each clause broke.
+  TERMS   the book, a line for each clause (terms.txt if not given):
+            number rule [or rule] [allow N]
+          a rule may begin with `after SIGNAL`, and is one of
+            never p              repeat p within T
+            never p from T       answer p by s within T
+            hold p least T       keep s for T since p
+            hold p under T
+          p and s are signals: a letter a to x, or *, with ! before it for the opposite;
+          T is a number of ticks, 0 to 999999999; N is 0 to 255; clause numbers rise
+  TRACE   the words of the stream, four bytes each, high byte first (trace.bin if not given)
+
+Prints a header, a line for each clause that broke (its number, and the number of the sample
+at which it did), and DONE with the count of samples, or STOP with the number of a refusal,
+which is explained on standard error. The status is 0 with DONE and 1 with STOP.
+";
+
+fn print(rt: &HostRuntime, page: &Page) -> io::Result<()> {
+    rt.stdout().write_all(page.bytes())
 }
 
-/// The clause number of each seat; seat k's stands at k - 1.
-fn clause_numbers(book: &Book) -> [u16; 64] {
-    let mut numbers = [0u16; 64];
-    for (i, number) in numbers.iter_mut().enumerate() {
-        *number = match u8::try_from(i + 1) {
-            Ok(seat) => book.clause_number(seat).unwrap_or(0),
-            Err(_) => 0,
-        };
-    }
-    numbers
-}
-
-/// A line for each notice, in their order.
-fn print_notices(rt: &HostRuntime, notices: &[Notice], numbers: &[u16; 64]) -> io::Result<()> {
-    for notice in notices {
-        let at = (notice.seat as usize).saturating_sub(1);
-        let term = numbers.get(at).copied().unwrap_or(0);
-        print_line(rt, &printout::notice(term, notice.number))?;
-    }
-    Ok(())
-}
-
-fn report(rt: &HostRuntime, book: Book) -> anyhow::Result<()> {
-    let numbers = clause_numbers(&book);
-    let mut watch = Watch::new(book);
-    let delivered = deliver_file(rt, TRACE, &mut watch);
-    let mut notices = [Notice { seat: 0, number: 0 }; 64];
-    let (written, _) = watch.list(&mut notices);
-    print_notices(rt, &notices[0..written], &numbers)?;
-    match delivered {
-        // the samples are numbered from 1
-        Ok(()) => Ok(print_line(rt, &printout::done(watch.next_number() - 1))?),
-        Err(refusal) => stop(rt, TRACE, refusal),
-    }
-}
-
-/// The last line of a run that was refused, with a sentence on standard error, and status 1.
-fn stop(rt: &HostRuntime, file: &str, refusal: Refusal) -> anyhow::Result<()> {
+/// What a refusal means, on standard error, and status 1.
+fn explain(rt: &HostRuntime, path: &str, refusal: Refusal) -> anyhow::Result<()> {
     let number = refusal.number();
-    print_line(rt, &printout::stop(number))?;
-    eprintln!(rt; "terms: {file}: refusal {number}: {refusal}")?;
+    eprintln!(rt; "terms: {path}: refusal {number}: {refusal}")?;
     Err(anyhow!("stopped"))
 }
 
 /// The same for a fault of the book, with its line and column, both from 1, and what was expected there.
-fn stop_at(rt: &HostRuntime, text: &[u8], fault: Fault) -> anyhow::Result<()> {
+fn explain_fault(rt: &HostRuntime, path: &str, text: &[u8], fault: Fault) -> anyhow::Result<()> {
     let refusal = fault.refusal();
     let number = refusal.number();
-    print_line(rt, &printout::stop(number))?;
     let (column, expected) = expected_at(text, fault);
     let line = fault.line();
     eprintln!(rt;
-        "terms: {TERMS}, line {line}, column {column}: refusal {number}: {refusal}; {expected}"
+        "terms: {path}, line {line}, column {column}: refusal {number}: {refusal}; {expected}"
     )?;
     Err(anyhow!("stopped"))
 }
 
-fn main(rt: HostRuntime) -> anyhow::Result<()> {
-    print_line(&rt, &printout::header())?;
+/// Runs the trace through the watch of the book, prints the report, and says what a STOP means.
+fn watch_file(rt: &HostRuntime, path: &str, mut run: Run) -> anyhow::Result<()> {
+    let end = follow_file(rt, path, &mut run);
+    print(rt, &run.page(end))?;
+    match run.stop(end) {
+        None => Ok(()),
+        Some(refusal) => explain(rt, path, refusal),
+    }
+}
+
+fn watch_files(rt: &HostRuntime, terms: &str, trace: &str) -> anyhow::Result<()> {
     let mut text = Text::new();
-    if let Err(refusal) = text.read_file(&rt, TERMS) {
-        return stop(&rt, TERMS, refusal);
+    if let Err(refusal) = text.read_file(rt, terms) {
+        print(rt, &Page::stopped(refusal))?;
+        return explain(rt, terms, refusal);
     }
-    let mut book = Book::new();
-    match book.read(text.bytes()) {
-        Ok(()) => report(&rt, book),
-        Err(fault) => stop_at(&rt, text.bytes(), fault),
+    match Run::new(text.bytes()) {
+        Ok(run) => watch_file(rt, trace, run),
+        Err(fault) => {
+            print(rt, &Page::stopped(fault.refusal()))?;
+            explain_fault(rt, terms, text.bytes(), fault)
+        }
     }
+}
+
+fn main(rt: HostRuntime) -> anyhow::Result<()> {
+    let mut args = env::args(&rt)?;
+    let _program = args.next();
+    let Some(terms) = args.next() else {
+        return watch_files(&rt, TERMS, TRACE);
+    };
+    if terms.as_str() == "--help" {
+        return Ok(print!(rt; "{HELP}")?);
+    }
+    let Some(trace) = args.next() else {
+        return watch_files(&rt, terms.as_str(), TRACE);
+    };
+    if args.next().is_some() {
+        eprint!(rt; "{HELP}")?;
+        return Err(anyhow!("too many arguments"));
+    }
+    watch_files(&rt, terms.as_str(), trace.as_str())
 }

@@ -10,10 +10,10 @@ mod tests;
 
 use crate::expected::expected_at;
 use crate::files::{Text, follow_file};
-use anyhow::anyhow;
 use grammar::Fault;
 use report::{Page, Run};
 use std::io::Write;
+use std::process::ExitCode;
 use std::{env, io};
 use stream::Refusal;
 
@@ -47,14 +47,19 @@ fn print(rt: &HostRuntime, page: &Page) -> io::Result<()> {
 }
 
 /// What a refusal means, on standard error, and status 1.
-fn explain(rt: &HostRuntime, path: &str, refusal: Refusal) -> anyhow::Result<()> {
+fn explain(rt: &HostRuntime, path: &str, refusal: Refusal) -> anyhow::Result<ExitCode> {
     let number = refusal.number();
     eprintln!(rt; "terms: {path}: refusal {number}: {refusal}")?;
-    Err(anyhow!("stopped"))
+    Ok(ExitCode::FAILURE)
 }
 
 /// The same for a fault of the book, with its line and column, both from 1, and what was expected there.
-fn explain_fault(rt: &HostRuntime, path: &str, text: &[u8], fault: Fault) -> anyhow::Result<()> {
+fn explain_fault(
+    rt: &HostRuntime,
+    path: &str,
+    text: &[u8],
+    fault: Fault,
+) -> anyhow::Result<ExitCode> {
     let refusal = fault.refusal();
     let number = refusal.number();
     let (column, expected) = expected_at(text, fault);
@@ -62,20 +67,20 @@ fn explain_fault(rt: &HostRuntime, path: &str, text: &[u8], fault: Fault) -> any
     eprintln!(rt;
         "terms: {path}, line {line}, column {column}: refusal {number}: {refusal}; {expected}"
     )?;
-    Err(anyhow!("stopped"))
+    Ok(ExitCode::FAILURE)
 }
 
 /// Runs the trace through the watch of the book, prints the report, and says what a STOP means.
-fn watch_file(rt: &HostRuntime, path: &str, mut run: Run) -> anyhow::Result<()> {
+fn watch_file(rt: &HostRuntime, path: &str, mut run: Run) -> anyhow::Result<ExitCode> {
     let end = follow_file(rt, path, &mut run);
     print(rt, &run.page(end))?;
     match run.stop(end) {
-        None => Ok(()),
+        None => Ok(ExitCode::SUCCESS),
         Some(refusal) => explain(rt, path, refusal),
     }
 }
 
-fn watch_files(rt: &HostRuntime, terms: &str, trace: &str) -> anyhow::Result<()> {
+fn watch_files(rt: &HostRuntime, terms: &str, trace: &str) -> anyhow::Result<ExitCode> {
     let mut text = Text::new();
     if let Err(refusal) = text.read_file(rt, terms) {
         print(rt, &Page::stopped(refusal))?;
@@ -90,21 +95,22 @@ fn watch_files(rt: &HostRuntime, terms: &str, trace: &str) -> anyhow::Result<()>
     }
 }
 
-fn main(rt: HostRuntime) -> anyhow::Result<()> {
+fn main(rt: HostRuntime) -> anyhow::Result<ExitCode> {
     let mut args = env::args(&rt)?;
     let _program = args.next();
     let Some(terms) = args.next() else {
         return watch_files(&rt, TERMS, TRACE);
     };
     if terms.as_str() == "--help" {
-        return Ok(print!(rt; "{HELP}")?);
+        print!(rt; "{HELP}")?;
+        return Ok(ExitCode::SUCCESS);
     }
     let Some(trace) = args.next() else {
         return watch_files(&rt, terms.as_str(), TRACE);
     };
     if args.next().is_some() {
         eprint!(rt; "{HELP}")?;
-        return Err(anyhow!("too many arguments"));
+        return Ok(ExitCode::FAILURE);
     }
     watch_files(&rt, terms.as_str(), trace.as_str())
 }

@@ -1,11 +1,11 @@
 ghost use Rattle.std.specs.Prelude.{◌≡◌, ◌+◌, ◌/◌};
 
 use crate::lines::END_LINE;
-use anyhow::anyhow;
 use rows::{Decoder, Entry, write_row};
 use std::fs::File;
 use std::io;
 use std::io::{BufReader, BufWriter, Read, Write};
+use std::process::ExitCode;
 use stream::Refusal;
 
 /// Why the lines of a trace break off.
@@ -18,7 +18,7 @@ pub enum Stop {
 }
 
 /// Prints the lines of a trace, up to its end or the first word that is refused.
-pub(crate) fn decode_file(rt: &HostRuntime, trace: &str) -> anyhow::Result<()> {
+pub(crate) fn decode_file(rt: &HostRuntime, trace: &str) -> anyhow::Result<ExitCode> {
     let Ok(source) = File::open(rt, trace) else {
         return explain(rt, trace, Stop::Unreadable);
     };
@@ -26,7 +26,7 @@ pub(crate) fn decode_file(rt: &HostRuntime, trace: &str) -> anyhow::Result<()> {
     let read = decode_bytes(BufReader::new(rt.alloc(), source)?, &mut out);
     out.flush()?;
     match read {
-        Ok(()) => Ok(()),
+        Ok(()) => Ok(ExitCode::SUCCESS),
         Err(stop) => explain(rt, trace, stop),
     }
 }
@@ -82,7 +82,7 @@ fn put_line(line: &[u8], out: &mut impl Write) -> io::Result<()> {
 }
 
 /// Says on standard error what stopped the reading, and where; ends with status 1.
-fn explain(rt: &HostRuntime, trace: &str, stop: Stop) -> anyhow::Result<()> {
+fn explain(rt: &HostRuntime, trace: &str, stop: Stop) -> anyhow::Result<ExitCode> {
     match stop {
         Stop::Unreadable => eprintln!(rt; "trace: {trace}: the file cannot be read")?,
         Stop::Unwritable => eprintln!(rt; "trace: the lines cannot be written")?,
@@ -91,5 +91,5 @@ fn explain(rt: &HostRuntime, trace: &str, stop: Stop) -> anyhow::Result<()> {
             eprintln!(rt; "trace: {trace}, word {word}: refusal {number}: {refusal}")?
         }
     }
-    Err(anyhow!("stopped"))
+    Ok(ExitCode::FAILURE)
 }

@@ -1,9 +1,9 @@
 use crate::fault::Fault;
 use crate::lines::Encoder;
-use anyhow::anyhow;
 use std::fs::File;
 use std::io;
 use std::io::{BufReader, BufWriter, Read, Write};
+use std::process::ExitCode;
 
 /// Why no trace was made.
 #[derive(Clone, Copy)]
@@ -17,9 +17,9 @@ pub enum Failure {
 }
 
 /// Makes the trace of the lines. They are read twice: no trace is touched before every line is known to be good.
-pub(crate) fn encode_file(rt: &HostRuntime, lines: &str, trace: &str) -> anyhow::Result<()> {
+pub(crate) fn encode_file(rt: &HostRuntime, lines: &str, trace: &str) -> anyhow::Result<ExitCode> {
     match make_trace(rt, lines, trace) {
-        Ok(()) => Ok(()),
+        Ok(()) => Ok(ExitCode::SUCCESS),
         Err(failure) => explain(rt, lines, trace, failure),
     }
 }
@@ -78,7 +78,12 @@ fn encode_byte(encoder: &mut Encoder, byte: u8, out: &mut impl Write) -> Result<
 }
 
 /// Says on standard error what failed, and where; ends with status 1.
-fn explain(rt: &HostRuntime, lines: &str, trace: &str, failure: Failure) -> anyhow::Result<()> {
+fn explain(
+    rt: &HostRuntime,
+    lines: &str,
+    trace: &str,
+    failure: Failure,
+) -> anyhow::Result<ExitCode> {
     match failure {
         Failure::Unreadable => eprintln!(rt; "trace: {lines}: the file cannot be read")?,
         Failure::Unwritable => eprintln!(rt; "trace: {trace}: the file cannot be written")?,
@@ -88,5 +93,5 @@ fn explain(rt: &HostRuntime, lines: &str, trace: &str, failure: Failure) -> anyh
             eprintln!(rt; "trace: {lines}, line {line}, column {column}: {fault}")?
         }
     }
-    Err(anyhow!("stopped"))
+    Ok(ExitCode::FAILURE)
 }

@@ -11,7 +11,7 @@ mod lines;
 
 use crate::decode::decode_file;
 use crate::encode::encode_file;
-use anyhow::anyhow;
+use std::process::ExitCode;
 use std::{env, io};
 
 fn print_usage(rt: &HostRuntime) -> io::Result<()> {
@@ -24,9 +24,9 @@ fn print_usage(rt: &HostRuntime) -> io::Result<()> {
     )
 }
 
-fn misused(rt: &HostRuntime) -> anyhow::Result<()> {
+fn misused(rt: &HostRuntime) -> anyhow::Result<ExitCode> {
     print_usage(rt)?;
-    Err(anyhow!("wrong arguments"))
+    Ok(ExitCode::FAILURE)
 }
 
 /// Does what the words behind the program's name ask for.
@@ -35,16 +35,19 @@ fn obey(
     verb: &str,
     first: Option<&str>,
     second: Option<&str>,
-) -> anyhow::Result<()> {
+) -> anyhow::Result<ExitCode> {
     match (verb, first, second) {
         ("encode", Some(lines), Some(trace)) => encode_file(rt, lines, trace),
         ("decode", Some(trace), None) => decode_file(rt, trace),
-        ("--help", None, None) => Ok(print_usage(rt)?),
+        ("--help", None, None) => {
+            print_usage(rt)?;
+            Ok(ExitCode::SUCCESS)
+        }
         _ => misused(rt),
     }
 }
 
-fn main(rt: HostRuntime) -> anyhow::Result<()> {
+fn main(rt: HostRuntime) -> anyhow::Result<ExitCode> {
     let mut args = env::args(&rt)?;
     let _program = args.next();
     let verb = args.next();

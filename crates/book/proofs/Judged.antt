@@ -6,7 +6,8 @@ use Rattle.stream.specs.declared.sample.Sample.{Sample}
 use Rattle.book.specs.declared.clause.Clause.{Clause}
 use Rattle.book.specs.Clauses.{fails_clause}
 use Rattle.book.specs.Seating.{at_seat, fails_at, number_of}
-use Rattle.book.specs.Seats.{nth_set, nth_other, nth_within, nth_beyond}
+use Rattle.book.specs.Laws.{nth_beyond}
+use Rattle.book.proofs.Seats.{nth_set, nth_other, nth_within}
 
 -- the clauses before clause i, from 0, have judged x and the others have not; their numbers stay
 pub record Judged (x : Sample) (i : ℕ) (cs ds : List Clause) : Type 0 where

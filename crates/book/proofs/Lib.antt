@@ -1,3 +1,4 @@
 pub mod Same
+pub mod Seats
 pub mod Judged
 pub mod Made

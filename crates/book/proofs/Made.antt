@@ -11,7 +11,8 @@ use Rattle.book.specs.Clauses.{fails_clause, fresh_clause}
 use Rattle.book.specs.Meaning.{ClauseFails}
 use Rattle.book.specs.Seating.{at_seat, seats_of, fails_at, number_of}
 use Rattle.book.specs.Books.{Holds}
-use Rattle.book.specs.Seats.{nth_set, nth_other, nth_within, nth_beyond}
+use Rattle.book.specs.Laws.{nth_beyond}
+use Rattle.book.proofs.Seats.{nth_set, nth_other, nth_within}
 
 -- what stands at a place of the two tables: no clause and no line, or the clause of the line, before any sample
 abbrev Same : Option Clause → Option Line → Type 0

@@ -1,21 +1,20 @@
--- A clause that fails keeps failing, and a new one does not fail.
-use Rattle.std.specs.Prelude.{◌≡◌, Bool, false, ◌&&◌, List, [], refl}
-use Rattle.std.proofs.lemmas.Bool.{and_parts, and_from}
+-- A clause that fails keeps failing, and a new one does not fail; a seat that is lost is within the count and stays lost.
+use Rattle.std.specs.Prelude.{◌≡◌, ℕ, zero, suc, ◌≤◌, true, false, List, [], ◌++◌, take, None, Some, Option, refl}
+use Rattle.std.proofs.Common.{sym, ap, ◌∙◌, ⊎_elim, arith, length-take}
+use Rattle.std.specs.List.{slice_get}
+use Rattle.std.proofs.lemmas.Bool.{cases_lt, false≢true}
+use Rattle.std.proofs.lemmas.Option.{slice_get_past}
 use Rattle.stream.specs.declared.sample.Sample.{Sample}
 use Rattle.monitor.specs.Turns.{unjudged, fails_rule, fresh_rule}
-use Rattle.monitor.specs.Runs.{stays_on}
-use Rattle.layers.specs.Lasting.{Lasting, either_way}
-use Rattle.layers.specs.FirstParts.{from_lasting}
-use Rattle.layers.specs.Openings.{over_lasting, over_none}
+use Rattle.monitor.specs.Laws.{stays_on}
+use Rattle.layers.specs.Laws.{Lasting, either_way, from_lasting, both_lasting, over_lasting, over_none}
 use Rattle.book.specs.declared.guarded.Guarded.{Guarded}
 use Rattle.book.specs.declared.guarded.Guarded.TheVariants as guarded
 use Rattle.book.specs.declared.body.Body.{Body}
 use Rattle.book.specs.declared.body.Body.TheVariants as body
 use Rattle.book.specs.declared.clause.Clause.{Clause}
+use Rattle.book.specs.Seating.{at_seat, fails_at}
 use Rattle.book.specs.Clauses.{fails_guarded, fresh_guarded, fails_body, fresh_body, fails_clause, fresh_clause}
-
-both_lasting : (F G : List Sample → Bool) → Lasting F → Lasting G → Lasting (λ l. F l && G l)
-both_lasting F G f g l k e = let p = and_parts (F l) (G l) e in and_from _ _ (f l k p.0) (g l k p.1)
 
 pub guarded_lasting : (m : Guarded) → Lasting (fails_guarded m)
 guarded_lasting (guarded.Plain r) l k e = stays_on l k r e
@@ -36,7 +35,7 @@ pub body_lasting_new : (m : Body) → Lasting (fresh_body m)
 body_lasting_new (body.One g) l k e = guarded_lasting_new g l k e
 body_lasting_new (body.Two b) l k e = both_lasting _ _ (guarded_lasting_new b.first) (guarded_lasting_new b.second) l k e
 
-guarded_starts : (m : Guarded) → fresh_guarded m [] ≡ false
+pub guarded_starts : (m : Guarded) → fresh_guarded m [] ≡ false
 guarded_starts (guarded.Plain r) = refl
 guarded_starts (guarded.After a) = refl
 
@@ -52,3 +51,17 @@ clause_lasting_new m = over_lasting m.body.allowed _ _ (body_lasting_new m.body.
 
 pub clause_starts : (m : Clause) → fresh_clause m [] ≡ false
 clause_starts m = over_none m.body.allowed _ _ (body_starts m.body.below)
+
+-- past the first n of a list there is none of them
+pub nth_beyond : {T : Type 0} (n : ℕ) (xs : List T) (k : ℕ) → n ≤ k → slice_get (take n xs) k ≡ None
+nth_beyond n xs k h = slice_get_past (take n xs) k (omega (arith, length-take n xs))
+
+-- what a seat answers is lasting, and none past the count is lost
+pub at_lasting : (c : Option Clause) (l h : List Sample) → fails_at c l ≡ true → fails_at c (l ++ h) ≡ true
+at_lasting None l h e = absurd (false≢true e)
+at_lasting (Some c) l h e = clause_lasting c l h e
+
+pub seat_within : (n : ℕ) (cs : List Clause) (l : List Sample) (k : ℕ) → fails_at (at_seat (take n cs) k) l ≡ true → (1 ≤ k) × (k ≤ n)
+seat_within n cs l zero e = absurd (false≢true e)
+seat_within n cs l (suc k) e =
+    ⊎_elim (λ lt. (omega arith, omega arith)) (λ ge. absurd (false≢true (ap (λ c. fails_at c l) (sym (nth_beyond n cs k ge)) ∙ e))) (cases_lt k n)

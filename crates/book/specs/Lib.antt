@@ -4,4 +4,3 @@ pub mod Seating
 pub mod Books
 pub mod Reading
 pub mod Laws
-pub mod Seats

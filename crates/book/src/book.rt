@@ -6,8 +6,7 @@ ghost use Rattle.grammar.specs.Books.{IsBook};
 ghost use Rattle.grammar.specs.declared.tree.Line.{Line as Said};
 ghost use Rattle.book.specs.Books.{Holds, unread_line};
 ghost use Rattle.book.specs.Reading.{Reads, HoldsRead, OneFault};
-ghost use Rattle.book.specs.Seats.{seat_within, at_lasting};
-ghost use Rattle.std.proofs.Common.{rules};
+ghost use Rattle.book.specs.Laws.{seat_within, at_lasting};
 
 use crate::clause::Clause;
 use crate::count::SeatCount;
@@ -122,7 +121,7 @@ impl Panel for Book {
 
     ghost fails = { book_fails };
 
-    ghost size = { Prim.search rules };
+    ghost size = { λ m. (m.count.from, m.count.upto) };
 
     ghost within = { λ m l k e. seat_within (seats_of m) m.clauses l k e };
 

@@ -2,8 +2,7 @@ ghost use Rattle.std.specs.Prelude.{List, Decides};
 ghost use Rattle.stream.specs.declared.sample.Sample.{Sample};
 ghost use Rattle.book.specs.Clauses.{fails_guarded, fresh_guarded};
 ghost use Rattle.book.specs.Meaning.{TermFails};
-ghost use Rattle.book.specs.Laws.{guarded_lasting, guarded_lasting_new};
-ghost use Rattle.std.proofs.Common.{rules};
+ghost use Rattle.book.specs.Laws.{guarded_lasting, guarded_lasting_new, guarded_starts};
 
 use grammar::Term;
 use layers::After;
@@ -38,7 +37,7 @@ impl Monitor for Guarded {
 
     ghost lasting_new = { guarded_lasting_new };
 
-    ghost starts = { Prim.search rules };
+    ghost starts = { guarded_starts };
 
     fn judge(&mut self, sample: Sample) -> bool {
         match self {

@@ -9,8 +9,8 @@ use Rattle.monitor.specs.Sentences.{Sentence}
 use Rattle.monitor.specs.Turns.{unjudged, fresh_rule}
 use Rattle.monitor.proofs.Meanings.{fails_by_sentence}
 use Rattle.layers.specs.Parts.{Fails, FirstPart}
-use Rattle.layers.specs.FirstParts.{after_decides}
-use Rattle.layers.specs.Openings.{allow_decides}
+use Rattle.layers.proofs.FirstParts.{after_decides}
+use Rattle.layers.proofs.Openings.{allow_decides}
 use Rattle.grammar.specs.declared.tree.Term.{Term}
 use Rattle.grammar.specs.declared.tree.Line.{Line}
 use Rattle.book.specs.declared.guarded.Guarded.{Guarded}

@@ -1,5 +1,3 @@
 pub mod Parts
 pub mod Layers
-pub mod Lasting
-pub mod FirstParts
-pub mod Openings
+pub mod Laws

@@ -1,10 +1,8 @@
-ghost use Rattle.std.specs.Prelude.{◌≡◌, List, Decides};
+ghost use Rattle.std.specs.Prelude.{◌≡◌, List, Decides, refl};
 ghost use Rattle.stream.specs.declared.sample.Sample.{Sample};
 ghost use Rattle.layers.specs.Layers.{after_now, after_new};
 ghost use Rattle.layers.specs.Parts.{Fails, FirstPart};
-ghost use Rattle.layers.specs.Lasting.{either_way};
-ghost use Rattle.layers.specs.FirstParts.{from_lasting};
-ghost use Rattle.std.proofs.Common.{rules};
+ghost use Rattle.layers.specs.Laws.{either_way, from_lasting};
 
 use crate::passing::renewed;
 use monitor::{Monitor, judge_on};
@@ -43,7 +41,7 @@ impl<M: Monitor> Monitor for After<M> {
 
     ghost lasting_new = { λ m l k h. from_lasting m.trigger (M.Monitor.fails_new m.below) (M.Monitor.lasting_new m.below) l k h };
 
-    ghost starts = { Prim.search rules };
+    ghost starts = { λ m. refl };
 
     fn judge(&mut self, sample: Sample) -> bool {
         self.opened = self.opened || self.trigger.holds(&sample);

@@ -2,7 +2,7 @@ ghost use Rattle.std.specs.Prelude.{◌≡◌, suc, List, Decides};
 ghost use Rattle.stream.specs.declared.sample.Sample.{Sample};
 ghost use Rattle.layers.specs.Layers.{allow_now, allow_new};
 ghost use Rattle.layers.specs.Parts.{Fails, Breaks};
-ghost use Rattle.layers.specs.Openings.{over_lasting, over_none};
+ghost use Rattle.layers.specs.Laws.{over_lasting, over_none};
 
 use crate::passing::{judge_anew, renewed};
 use monitor::{Monitor, judge_on};

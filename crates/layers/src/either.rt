@@ -1,8 +1,9 @@
-ghost use Rattle.std.specs.Prelude.{◌≡◌, List, Decides};
+ghost use Rattle.std.specs.Prelude.{◌≡◌, ◌&&◌, List, [], Decides};
 ghost use Rattle.stream.specs.declared.sample.Sample.{Sample};
 ghost use Rattle.layers.specs.Layers.{either_fails};
 ghost use Rattle.layers.specs.Parts.{Fails, Both};
-ghost use Rattle.std.proofs.Common.{rules};
+ghost use Rattle.layers.specs.Laws.{both_lasting};
+ghost use Rattle.std.proofs.Common.{ap};
 
 use crate::passing::renewed;
 use monitor::{Monitor, judge_on};
@@ -33,11 +34,11 @@ impl<A: Monitor, B: Monitor> Monitor for Either<A, B> {
 
     ghost fails_new = { either_fails A.Monitor.fails_new B.Monitor.fails_new };
 
-    ghost lasting_now = { Prim.search rules };
+    ghost lasting_now = { λ m. both_lasting (A.Monitor.fails_now m.first) (B.Monitor.fails_now m.second) (A.Monitor.lasting_now m.first) (B.Monitor.lasting_now m.second) };
 
-    ghost lasting_new = { Prim.search rules };
+    ghost lasting_new = { λ m. both_lasting (A.Monitor.fails_new m.first) (B.Monitor.fails_new m.second) (A.Monitor.lasting_new m.first) (B.Monitor.lasting_new m.second) };
 
-    ghost starts = { Prim.search rules };
+    ghost starts = { λ m. ap (λ b. b && B.Monitor.fails_new m.second []) (A.Monitor.starts m.first) };
 
     fn judge(&mut self, sample: Sample) -> bool {
         let first = judge_on(&mut self.first, sample);

@@ -10,7 +10,7 @@ use Rattle.monitor.specs.declared.pattern.Pattern.TheVariants.{Keep}
 use Rattle.stream.specs.Signals.{holds_at}
 use Rattle.monitor.specs.Turns.{keep_turn}
 use Rattle.monitor.specs.Sentences.{nth, has, Sentence}
-use Rattle.monitor.specs.Runs.{clock_at, Fault}
+use Rattle.monitor.proofs.Runs.{clock_at, Fault}
 use Rattle.monitor.proofs.Times.{upto, not_then}
 use Rattle.monitor.proofs.Readings.{Counting, Says, starts, goes_on, later, says, short_true, short_from}
 

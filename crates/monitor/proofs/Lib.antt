@@ -1,3 +1,4 @@
+pub mod Runs
 pub mod Times
 pub mod Readings
 pub mod NeverRules

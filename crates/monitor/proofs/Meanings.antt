@@ -6,7 +6,7 @@ use Rattle.monitor.specs.declared.pattern.Pattern.{Pattern}
 use Rattle.monitor.specs.declared.pattern.Pattern.TheVariants.{Never, NeverFrom, HoldLeast, HoldUnder, Repeat, Answer, Keep}
 use Rattle.monitor.specs.Turns.{unjudged, fails_rule, fresh_rule}
 use Rattle.monitor.specs.Sentences.{Sentence}
-use Rattle.monitor.specs.Runs.{decided}
+use Rattle.monitor.proofs.Runs.{decided}
 use Rattle.monitor.proofs.NeverRules.{never_sound, never_complete, from_sound, from_complete}
 use Rattle.monitor.proofs.HoldRules.{least_sound, least_complete, under_sound, under_complete}
 use Rattle.monitor.proofs.RepeatRule.{repeat_sound, repeat_complete}

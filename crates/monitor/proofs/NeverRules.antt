@@ -9,7 +9,7 @@ use Rattle.monitor.specs.declared.limit.Ticks.{Ticks}
 use Rattle.monitor.specs.declared.pattern.Pattern.TheVariants.{Never, NeverFrom}
 use Rattle.monitor.specs.Clocks.{begun}
 use Rattle.monitor.specs.Sentences.{Sentence}
-use Rattle.monitor.specs.Runs.{clock_at, Fault}
+use Rattle.monitor.proofs.Runs.{clock_at, Fault}
 use Rattle.monitor.proofs.Readings.{Counting, Says, starts, goes_on, later, says, reached_true, reached_from}
 
 pub never_sound : (p : Signal) (l : List Sample) → Fault (Never p) l → Sentence (Never p) l

@@ -9,7 +9,7 @@ use Rattle.monitor.specs.declared.limit.Ticks.{Ticks}
 use Rattle.monitor.specs.Clocks.{highest, advanced, reached, passed, short_of}
 use Rattle.monitor.specs.Turns.{turn_of}
 use Rattle.monitor.specs.Sentences.{nth, time}
-use Rattle.monitor.specs.Runs.{clock_at}
+use Rattle.monitor.proofs.Runs.{clock_at}
 use Rattle.monitor.proofs.Times.{time_next, time_mono, upto}
 
 -- what a clock says: off after sample k, or the time from its start a to sample e, as it ran from a to k

@@ -10,7 +10,7 @@ use Rattle.monitor.specs.declared.pattern.Pattern.TheVariants.{Repeat}
 use Rattle.stream.specs.Signals.{holds_at}
 use Rattle.monitor.specs.Turns.{repeat_turn}
 use Rattle.monitor.specs.Sentences.{nth, time, has, Sentence}
-use Rattle.monitor.specs.Runs.{clock_at, Fault}
+use Rattle.monitor.proofs.Runs.{clock_at, Fault}
 use Rattle.monitor.proofs.Times.{time_mono, first_past, upto}
 use Rattle.monitor.proofs.Readings.{Counting, Says, starts, goes_on, later, says, passed_true, passed_from}
 

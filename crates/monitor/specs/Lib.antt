@@ -1,4 +1,4 @@
 pub mod Sentences
 pub mod Clocks
 pub mod Turns
-pub mod Runs
+pub mod Laws

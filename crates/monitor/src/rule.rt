@@ -1,9 +1,8 @@
-ghost use Rattle.std.specs.Prelude.{◌≡◌, List, Decides};
+ghost use Rattle.std.specs.Prelude.{◌≡◌, List, Decides, refl};
 ghost use Rattle.stream.specs.declared.sample.Sample.{Sample};
 ghost use Rattle.monitor.specs.Sentences.{Sentence};
 ghost use Rattle.monitor.specs.Turns.{while, never_turn, never_from_turn, hold_least_turn, hold_under_turn, repeat_turn, answer_turn, keep_turn, turn_of, unjudged, fails_rule, fresh_rule};
-ghost use Rattle.monitor.specs.Runs.{stays_on};
-ghost use Rattle.std.proofs.Common.{rules};
+ghost use Rattle.monitor.specs.Laws.{stays_on};
 
 use crate::clock::Clock;
 use crate::judging::Monitor;
@@ -150,7 +149,7 @@ impl Monitor for Rule {
 
     ghost lasting_new = { λ m l k h. stays_on l k (unjudged m.pattern) h };
 
-    ghost starts = { Prim.search rules };
+    ghost starts = { λ m. refl };
 
     fn judge(&mut self, sample: Sample) -> bool {
         let turn = self.turn(sample);

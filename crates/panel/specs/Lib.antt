@@ -1,2 +1,3 @@
 pub mod Seating
 pub mod Single
+pub mod Laws

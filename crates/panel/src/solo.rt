@@ -2,7 +2,8 @@ ghost use Rattle.std.specs.Prelude.{◌≡◌, ℕ, true, ◌&&◌, List, Decide
 ghost use Rattle.stream.specs.declared.sample.Sample.{Sample};
 ghost use Rattle.panel.specs.Seating.{has_seat};
 ghost use Rattle.panel.specs.Single.{count_solo, fails_solo};
-ghost use Rattle.std.proofs.Common.{rules};
+ghost use Rattle.panel.specs.Laws.{solo_within, solo_lasting};
+ghost use Rattle.std.proofs.Common.{lit≤};
 
 use crate::judging::Panel;
 use crate::seats::Seats;
@@ -37,11 +38,11 @@ impl<M: Monitor> Panel for Solo<M> {
 
     ghost fails = { fails_solo M.Monitor.fails_now };
 
-    ghost size = { Prim.search rules };
+    ghost size = { λ m. (lit≤ tt, lit≤ tt) };
 
-    ghost within = { Prim.search rules };
+    ghost within = { λ m. solo_within M.Monitor.fails_now m };
 
-    ghost lasting = { Prim.search rules };
+    ghost lasting = { λ m. solo_lasting M.Monitor.fails_now m (M.Monitor.lasting_now m.monitor) };
 
     fn judge(&mut self, sample: Sample) -> Seats {
         first_where(judge_on(&mut self.monitor, sample))

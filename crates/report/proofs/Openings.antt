@@ -7,7 +7,7 @@ use Rattle.grammar.specs.Books.{IsBook}
 use Rattle.book.specs.declared.book.Book.{Book}
 use Rattle.book.specs.Books.{SeatFails, Holds}
 use Rattle.book.specs.Seating.{at_seat, seats_of, clauses_of, book_fails, number_at}
-use Rattle.book.specs.Seats.{at_lasting, seat_within}
+use Rattle.book.specs.Laws.{at_lasting, seat_within}
 use Rattle.watch.specs.declared.story.Call.{Call}
 use Rattle.watch.specs.declared.story.Answer.{Answer}
 use Rattle.watch.specs.Losses.{bare}

@@ -2,7 +2,7 @@
 use Rattle.std.proofs.Common.{◌≡◌, ℕ, ◌<◌, Option, unwrap_or, ap, inr, arith}
 use Rattle.book.specs.declared.book.Book.{Book}
 use Rattle.book.specs.Seating.{seats_of, number_at}
-use Rattle.book.specs.Seats.{number_beyond}
+use Rattle.book.proofs.Seats.{number_beyond}
 
 -- no seat past the sixty-fourth has a clause
 pub none_beyond : (b : Book) (k : ℕ) → 64 < k → 0 ≡ unwrap_or (number_at b k) 0

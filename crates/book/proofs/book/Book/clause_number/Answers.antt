@@ -1,7 +1,7 @@
 use Rattle.std.proofs.Common.{ℕ, ◌-◌, ◌<◌, length, get_or, Some, ap, ◌∙◌, inl, inr, arith}
 use Rattle.std.proofs.lemmas.Option.{slice_get-get_or}
 use Rattle.book.specs.Seating.{seats_of}
-use Rattle.book.specs.Seats.{number_within, number_beyond}
+use Rattle.book.proofs.Seats.{number_within, number_beyond}
 use Rattle.book.proofs.book.Book.clause_number.Goals as goal
 use Rattle.book.proofs.book.Book.clause_number.Goals.{then-seat-eq0-via-then-seat-eq0, then-seat-eq0-via-else-seat-eq0+then-seat-seated}
 

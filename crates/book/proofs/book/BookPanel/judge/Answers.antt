@@ -2,7 +2,7 @@ use Rattle.std.proofs.Common.{◌≡◌, ℕ, ◌<◌, [], length, get_or, take,
 use Rattle.std.proofs.lemmas.Option.{slice_get-get_or}
 use Rattle.book.specs.declared.count.SeatCount.{SeatCount}
 use Rattle.book.specs.Seating.{at_seat, fails_at, number_of}
-use Rattle.book.specs.Seats.{nth_set, nth_other, found_none, found_more}
+use Rattle.book.proofs.Seats.{nth_set, nth_other, found_none, found_more}
 use Rattle.book.proofs.Judged.{Judged, judged_none, judged_more, judged_fails, judged_numbers}
 use Rattle.book.proofs.book.BookPanel.judge.Goals as goal
 

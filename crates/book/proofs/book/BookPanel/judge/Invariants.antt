@@ -1,5 +1,5 @@
 use Rattle.std.proofs.Common.{◌≡◌, length}
-use Rattle.book.specs.Seats.{Found}
+use Rattle.book.proofs.Seats.{Found}
 use Rattle.book.proofs.Judged.{Judged}
 use Rattle.book.proofs.book.BookPanel.judge.Given as goal
 

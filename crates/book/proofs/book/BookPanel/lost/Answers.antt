@@ -1,6 +1,6 @@
 use Rattle.std.proofs.Common.{◌<◌, length, get_or, refl, arith}
 use Rattle.std.proofs.lemmas.Option.{slice_get-get_or}
-use Rattle.book.specs.Seats.{found_more}
+use Rattle.book.proofs.Seats.{found_more}
 use Rattle.book.proofs.book.BookPanel.lost.Goals as goal
 
 pub loop-i-preserved : goal.loop-i-preserved

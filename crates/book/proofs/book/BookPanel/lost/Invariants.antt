@@ -1,4 +1,4 @@
-use Rattle.book.specs.Seats.{Found}
+use Rattle.book.proofs.Seats.{Found}
 use Rattle.book.proofs.book.BookPanel.lost.Given as goal
 
 abbrev pub invariant-loop-i : goal.invariant-loop-i

@@ -1,5 +1,5 @@
 use Rattle.std.proofs.Common.{rules}
-use Rattle.layers.specs.FirstParts.{after_decides}
+use Rattle.layers.proofs.FirstParts.{after_decides}
 use Rattle.layers.proofs.after.After.new.Goals as goal
 
 pub returns : goal.returns

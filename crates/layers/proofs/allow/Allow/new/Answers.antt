@@ -1,5 +1,5 @@
 use Rattle.std.proofs.Common.{rules}
-use Rattle.layers.specs.Openings.{allow_decides}
+use Rattle.layers.proofs.Openings.{allow_decides}
 use Rattle.layers.proofs.allow.Allow.new.Goals as goal
 
 pub returns : goal.returns

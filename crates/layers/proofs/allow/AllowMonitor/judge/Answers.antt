@@ -1,5 +1,6 @@
 use Rattle.std.proofs.Common.{◌-◌, [], sym, ◌∙◌, rules}
-use Rattle.layers.specs.Openings.{over_none, over_left, over_broken, over_whole}
+use Rattle.layers.specs.Laws.{over_none}
+use Rattle.layers.proofs.Openings.{over_left, over_broken, over_whole}
 use Rattle.layers.proofs.allow.AllowMonitor.judge.Goals as goal
 
 pub returns-then-judge_anew : goal.returns-then-judge_anew

@@ -1,5 +1,5 @@
 use Rattle.std.proofs.Common.{rules}
-use Rattle.layers.specs.Openings.{over_left}
+use Rattle.layers.proofs.Openings.{over_left}
 use Rattle.layers.proofs.allow.AllowMonitor.lost.Goals as goal
 
 pub returns-else-self-eq0 : goal.returns-else-self-eq0

@@ -9,13 +9,8 @@ use Rattle.monitor.specs.Sentences.{has}
 use Rattle.monitor.proofs.Times.{not_then}
 use Rattle.layers.specs.Layers.{from_first}
 use Rattle.layers.specs.Parts.{Fails, FirstPart}
-use Rattle.layers.specs.Lasting.{Lasting, either_way}
 
 module _ (q : Signal) where
-  pub from_lasting : (F : List Sample → Bool) → Lasting F → Lasting (from_first q F)
-  from_lasting F h [] k e = absurd (false≢true e)
-  from_lasting F h (s ∷ l) k e = either_way (holds_at q s) _ _ _ _ (h (s ∷ l) k) (from_lasting F h l k) e
-
   pub from_alike : {F G : List Sample → Bool} → ((x : List Sample) → F x ≡ G x) → (l : List Sample) → from_first q F l ≡ from_first q G l
   from_alike e l = λ i. from_first q (λ x. e x i) l
 

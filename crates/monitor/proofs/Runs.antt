@@ -1,23 +1,13 @@
 -- A rule's run by sample numbers, and where it is lost.
-use Rattle.std.specs.Prelude.{◌≡◌, ℕ, zero, suc, ◌<◌, Bool, true, false, ◌||◌, List, [], ◌∷◌, ◌++◌, length, Decides, refl}
+use Rattle.std.specs.Prelude.{◌≡◌, ℕ, zero, suc, ◌<◌, Bool, true, false, ◌||◌, List, [], ◌∷◌, length, Decides, refl}
 use Rattle.std.proofs.Common.{sym, ap, ap₂, ◌∙◌, ⊎_elim, arith}
 use Rattle.monitor.specs.declared.clock.Clock.{Clock}
 use Rattle.monitor.specs.declared.clock.Clock.TheVariants.{Stopped}
 use Rattle.std.proofs.lemmas.Bool.{or_cases, or_left, or_right, cases_lt, false≢true}
 use Rattle.stream.specs.declared.sample.Sample.{Sample}
 use Rattle.monitor.specs.declared.pattern.Pattern.{Pattern}
-use Rattle.monitor.specs.declared.rule.Rule.{Rule}
-use Rattle.monitor.specs.Turns.{turn_of, step_rule, fails_rule}
+use Rattle.monitor.specs.Turns.{turn_of, fails_rule}
 use Rattle.monitor.specs.Sentences.{nth}
-
--- a lost rule stays lost
-pub stays : (l : List Sample) (r : Rule) → r.lost ≡ true → fails_rule r l ≡ true
-stays [] r h = h
-stays (x ∷ l) r h = stays l (step_rule r x) (or_left _ _ h)
-
-pub stays_on : (l k : List Sample) (r : Rule) → fails_rule r l ≡ true → fails_rule r (l ++ k) ≡ true
-stays_on [] k r h = stays k r h
-stays_on (x ∷ l) k r h = stays_on l k (step_rule r x) h
 
 -- the clock after k samples, and whether the rule is lost then
 abbrev pub clock_at : Pattern → Clock → List Sample → ℕ → Clock

@@ -1,17 +1,15 @@
 -- The seats of a table of which the first n count.
-use Rattle.std.specs.Prelude.{◌≡◌, ℕ, zero, suc, ◌+◌, ◌-◌, ◌<◌, ◌≤◌, Bool, true, false, ◌&&◌, ◌||◌, ◌⊎◌, List, [], ◌∷◌, ◌++◌, length, take, Some, None, Option, ◌==◌, ◌≢◌, slice_set, refl}
-use Rattle.std.proofs.Common.{sym, ap, ◌∙◌, inl, inr, ⊎_elim, arith, length-take}
+use Rattle.std.specs.Prelude.{◌≡◌, ℕ, zero, suc, ◌+◌, ◌-◌, ◌<◌, ◌≤◌, Bool, false, ◌&&◌, ◌||◌, ◌⊎◌, List, [], ◌∷◌, length, take, Some, None, ◌==◌, ◌≢◌, slice_set, refl}
+use Rattle.std.proofs.Common.{sym, ap, ◌∙◌, inl, inr, ⊎_elim, arith}
 use Rattle.std.specs.List.{slice_get}
-use Rattle.std.proofs.lemmas.Option.{slice_get_past}
-use Rattle.std.proofs.lemmas.Bool.{cases_lt, false≢true}
+use Rattle.std.proofs.lemmas.Bool.{cases_lt}
 use Rattle.std.proofs.lemmas.Bool.Decides.{nat_tests}
-use Rattle.stream.specs.declared.sample.Sample.{Sample}
 use Rattle.panel.specs.declared.seats.Seats.{Seats}
 use Rattle.panel.specs.Seating.{is_seat, has_seat}
 use Rattle.book.specs.declared.clause.Clause.{Clause}
 use Rattle.book.specs.Clauses.{fails_clause}
 use Rattle.book.specs.Seating.{at_seat, fails_at, number_of}
-use Rattle.book.specs.Laws.{clause_lasting}
+use Rattle.book.specs.Laws.{nth_beyond}
 
 module _ {T : Type 0} where
   pub nth_set : (xs : List T) (i : ℕ) (y : T) → i < length xs → slice_get (slice_set xs i y) i ≡ Some y
@@ -31,19 +29,6 @@ module _ {T : Type 0} where
   nth_within (suc n) [] k h = refl
   nth_within (suc n) (x ∷ xs) zero h = refl
   nth_within (suc n) (x ∷ xs) (suc k) h = nth_within n xs k (omega arith)
-
-  pub nth_beyond : (n : ℕ) (xs : List T) (k : ℕ) → n ≤ k → slice_get (take n xs) k ≡ None
-  nth_beyond n xs k h = slice_get_past (take n xs) k (omega (arith, length-take n xs))
-
--- what a seat answers is lasting, and none past the count is lost
-pub at_lasting : (c : Option Clause) (l h : List Sample) → fails_at c l ≡ true → fails_at c (l ++ h) ≡ true
-at_lasting None l h e = absurd (false≢true e)
-at_lasting (Some c) l h e = clause_lasting c l h e
-
-pub seat_within : (n : ℕ) (cs : List Clause) (l : List Sample) (k : ℕ) → fails_at (at_seat (take n cs) k) l ≡ true → (1 ≤ k) × (k ≤ n)
-seat_within n cs l zero e = absurd (false≢true e)
-seat_within n cs l (suc k) e =
-    ⊎_elim (λ lt. (omega arith, omega arith)) (λ ge. absurd (false≢true (ap (λ c. fails_at c l) (sym (nth_beyond n cs k ge)) ∙ e))) (cases_lt k n)
 
 -- the lost seats among the first i are found, and with seat i + 1 those among the first i + 1
 abbrev pub Found : ℕ → List Clause → Seats → Type 0

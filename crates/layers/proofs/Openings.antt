@@ -6,22 +6,12 @@ use Rattle.std.proofs.lemmas.Bool.{false≢true, both_ways, cases_lt}
 use Rattle.stream.specs.declared.sample.Sample.{Sample}
 use Rattle.layers.specs.Layers.{overrun}
 use Rattle.layers.specs.Parts.{Fails, Shortest, Breaks}
-use Rattle.layers.specs.Lasting.{Lasting, either_way}
-
-pub over_lasting : (n : ℕ) (F G : List Sample → Bool) → Lasting F → Lasting G → Lasting (overrun n F G)
-over_lasting zero F G f g l k e = f l k e
-over_lasting (suc n) F G f g [] k e = absurd (false≢true e)
-over_lasting (suc n) F G f g (s ∷ l) k e =
-    either_way (F (s ∷ [])) _ _ _ _ (over_lasting n G G g g l k) (over_lasting (suc n) (λ m. F (s ∷ m)) G (λ a b. f (s ∷ a) b) g l k) e
+use Rattle.layers.specs.Laws.{Lasting}
 
 pub over_alike : (n : ℕ) {F H G K : List Sample → Bool} → ((x : List Sample) → F x ≡ H x) → ((x : List Sample) → G x ≡ K x) → (l : List Sample) → overrun n F G l ≡ overrun n H K l
 over_alike n e f l = λ i. overrun n (λ x. e x i) (λ x. f x i) l
 
 -- no sample
-pub over_none : (n : ℕ) (F G : List Sample → Bool) → F [] ≡ false → overrun n F G [] ≡ false
-over_none zero F G e = e
-over_none (suc n) F G e = refl
-
 pub over_left : (n : ℕ) (F G : List Sample → Bool) → (n ≢ 0) → overrun n F G [] ≡ false
 over_left zero F G e = absurd (e refl)
 over_left (suc n) F G e = refl

@@ -1,0 +1,2 @@
+pub mod FirstParts
+pub mod Openings

@@ -1,4 +1,4 @@
--- A clause that fails keeps failing, and a new one does not fail; a seat that is lost is within the count and stays lost.
+-- A clause that fails keeps failing, and a new one does not fail on no samples; a seat that is lost is within the count and stays lost.
 use Rattle.std.specs.Prelude.{◌≡◌, ℕ, zero, suc, ◌≤◌, true, false, List, [], ◌++◌, take, None, Some, Option, refl}
 use Rattle.std.proofs.Common.{sym, ap, ◌∙◌, ⊎_elim, arith, length-take}
 use Rattle.std.specs.List.{slice_get}
@@ -52,7 +52,7 @@ clause_lasting_new m = over_lasting m.body.allowed _ _ (body_lasting_new m.body.
 pub clause_starts : (m : Clause) → fresh_clause m [] ≡ false
 clause_starts m = over_none m.body.allowed _ _ (body_starts m.body.below)
 
--- past the first n of a list there is none of them
+-- the first n elements of a list have none at a place from n on
 pub nth_beyond : {T : Type 0} (n : ℕ) (xs : List T) (k : ℕ) → n ≤ k → slice_get (take n xs) k ≡ None
 nth_beyond n xs k h = slice_get_past (take n xs) k (omega (arith, length-take n xs))
 

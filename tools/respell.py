@@ -15,7 +15,6 @@ HERE = os.path.dirname(os.path.abspath(__file__))
 ROWS = dict(line.rstrip("\n").split("\t") for line in open(os.path.join(HERE, "respell.tsv"), encoding="utf-8"))
 WORD = re.compile(r'[^\s(){}.;,@"«»:]+')
 CLAUSE = re.compile(r"^\s*(?:(?:old|new): *)?(?:pub )?(?:ghost\b|requires\b|ensures\b)")
-GHOST_OPEN = re.compile(r"^\s*ghost (?:use\b|\w+ ?[:=])")
 
 
 def turned(text):
@@ -40,9 +39,8 @@ def rust(text):
     out, depth = [], 0
     for line in text.split("\n"):
         if depth > 0 or CLAUSE.match(line):
-            opens = GHOST_OPEN.match(line) or depth > 0 or CLAUSE.match(line)
             out.append(turned(line))
-            depth = max(0, depth + line.count("{") - line.count("}")) if opens else 0
+            depth = max(0, depth + line.count("{") - line.count("}"))
         else:
             parts = re.split(r'("(?:[^"\\]|\\.)*")', line)
             out.append("".join(p if i % 2 else re.sub(r"\b[a-z]+[A-Z]\w*\b", lambda m: ROWS.get(m.group(0), m.group(0)), p) for i, p in enumerate(parts)))

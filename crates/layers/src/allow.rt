@@ -37,8 +37,8 @@ impl<M: Monitor> Monitor for Allow<M> {
     ghost fails_new = { allow_new M.Monitor.fails_new };
 
     ghost lasting_now = { λ m l k h.
-        let laws = M.Monitor in
-        over_lasting m.left (M.Monitor.fails_now m.below) (M.Monitor.fails_new m.below) (laws.lasting_now m.below) (laws.lasting_new m.below) l k h };
+        let lasts = M.Monitor.lasting_now m.below in
+        over_lasting m.left (M.Monitor.fails_now m.below) (M.Monitor.fails_new m.below) lasts (M.Monitor.lasting_new m.below) l k h };
 
     ghost lasting_new = { λ m l k h.
         let G = M.Monitor.fails_new m.below in

@@ -1,4 +1,4 @@
-ghost use Rattle.std.specs.Prelude.{◌≡◌, ◌<◌, [], ◌∷◌, ◌++◌, length, Some};
+ghost use Rattle.std.specs.Prelude.{◌≡◌, [], ◌∷◌, ◌++◌, Some};
 ghost use Rattle.stream.specs.Bytes.{held_by, bytes_of, finish_by};
 
 use crate::refusal::Refusal;
@@ -21,8 +21,7 @@ impl Assembler {
 
     /// One byte more; the word, if this byte completes one. The bytes of the word and those still held are the bytes held before and the new one.
     pub fn push(&mut self, byte: u8) -> Option<u32>
-        ensures kept { bytes_of result ++ held_by self.new ≡ held_by self.old ++ byte ∷ [] }
-        ensures few { length (held_by self.new) < 4 }
+        ensures { bytes_of result ++ held_by self.new ≡ held_by self.old ++ byte ∷ [] }
     {
         match *self {
             Assembler::Empty => *self = Assembler::One(byte),

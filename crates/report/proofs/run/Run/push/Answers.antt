@@ -13,10 +13,10 @@ pub returns-in-Some : goal.returns-in-Some
 returns-in-Some c text before f =
     let run = c.args.self.now in
     let none = none_of run.refused (sym c.is_some.ensures ∙ c.if-is_some.false) in
-    word_whole_on text before (c.args.byte ∷ []) run _ c.in-Some.word c.deliver-refused.result.0 none refl c.deliver-refused.ensures.delivered c.in-Some.ensures.kept f
+    word_whole_on text before (c.args.byte ∷ []) run _ c.in-Some.word c.deliver-refused.result.0 none refl c.deliver-refused.ensures.delivered c.in-Some.ensures f
 
 pub returns-in_default : goal.returns-in_default
 returns-in_default c text before f =
     let run = c.args.self.now in
     let none = none_of run.refused (sym c.is_some.ensures ∙ c.if-is_some.false) in
-    byte_held text before (c.args.byte ∷ []) run _ none none refl refl c.in_default.ensures.kept f
+    byte_held text before (c.args.byte ∷ []) run _ none none refl refl c.in_default.ensures f

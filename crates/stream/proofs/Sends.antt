@@ -1,10 +1,10 @@
 -- What the sender writes, and what a feed reads of it.
-use Rattle.std.proofs.Common.{◌≡◌, ℕ, zero, suc, ◌+◌, ◌-◌, ◌*◌, ◌/◌, ◌%◌, ◌^◌, ◌<◌, ◌≤◌, Bool, true, false, cond, not, eqb, List, [], ◌∷◌, ◌++◌, length, get_or, take, drop, set, replicate, IfOk, Some, None, Ok, Err, Option, Result, sym, refl, ap, ◌∙◌, subst, append_assoc, arith, length-append}
+use Rattle.std.proofs.Common.{◌≡◌, ℕ, zero, suc, ◌+◌, ◌-◌, ◌*◌, ◌/◌, ◌%◌, ◌^◌, ◌<◌, ◌≤◌, Bool, true, false, cond, not, eqb, List, [], ◌∷◌, ◌++◌, length, get_or, take, drop, set, replicate, IfOk, Some, None, Ok, Option, Result, sym, refl, ap, ◌∙◌, subst, append_assoc, arith, length-append}
 use mir.Val.{bool_byte}
 use Rattle.std.proofs.lemmas.List.{set_at, take_at, drop_more, length-replicate}
-use Rattle.std.proofs.lemmas.Bool.{lt-ltb, le-ltb, eqb-true}
+use Rattle.std.proofs.lemmas.Bool.{le-ltb, eqb-true}
 use Rattle.stream.specs.declared.refusal.Refusal.{Refusal}
-use Rattle.stream.specs.declared.refusal.Refusal.TheVariants.{HighLetter, ListTooShort}
+use Rattle.stream.specs.declared.refusal.Refusal.TheVariants.{HighLetter}
 use Rattle.stream.specs.Refusals.{when, first_of}
 use Rattle.stream.specs.Words.{State, feeding, onward, made, after, kind, load, longest_gap, last_number, sample_in}
 use Rattle.stream.specs.Sending.{full_gap, full_words, remainder, last_gap, words_of, sample_words, too_short, Put, Sent, ReadAs, ReadsBack}
@@ -56,9 +56,6 @@ module _ (fulls rest letters : ℕ) (out : List ℕ) (more : ℕ) (m : more ≡ 
 
   long_words : length ws ≡ fulls + more + 1
   long_words = length_words fulls rest (2 ^ 30 + letters) ∙ ap (λ k. fulls + k + 1) (sym m)
-
-  pub put_short : length out ≤ fulls + more → Put (too_short ws out) ws out (Err ListTooShort) out
-  put_short h = rw (lt-ltb (length out) (length ws) (omega (arith, long_words))) (record { answer = refl; list = refl })
 
   pub put_done : (front : List ℕ) → front ≡ replicate fulls full_gap → fulls + more < length out
       → Put (too_short ws out) ws out (Ok (fulls + more + 1)) (set (set (front ++ drop (fulls - 0) out) fulls rest) (fulls + more) (2 ^ 30 + letters))

@@ -4,6 +4,7 @@ ghost use Rattle.stream.specs.declared.refusal.Refusal.TheVariants.{HighSignal};
 use crate::refusal::Refusal;
 
 /// One of the letters a to x, by its bit: a is 0 and x is 23.
+// A type of its own, and no instance of a bounded number: letters, limits and clause numbers have each another width, another bound and another answer to what is beyond it.
 #[derive(Clone, Copy, PartialEq, Eq, Debug)]
 pub struct Letter {
     bit: u8,

@@ -27,28 +27,31 @@ mod tests {
 
     const FULL: u32 = 0x3FFF_FFFF;
 
-    // The refusal of the first word that is refused, as a number, or 0.
-    fn refused(feed: &mut Feed, words: &[u32]) -> u8 {
+    // Takes the words in turn, up to the first that is refused.
+    fn take_all(feed: &mut Feed, words: &[u32]) -> Result<(), Refusal> {
         for word in words {
-            if let Err(refusal) = feed.take(*word) {
-                return refusal.number();
-            }
+            feed.take(*word)?;
         }
-        0
+        Ok(())
+    }
+
+    // The number of the refusal that the words end in.
+    fn refused(feed: &mut Feed, words: &[u32]) -> Option<u8> {
+        Some(take_all(feed, words).err()?.number())
     }
 
     #[test]
     fn each_check_of_a_word(rt: HostRuntime) {
-        let cases: [(&[u32], u8); 9] = [
-            (&[FULL, FULL, FULL, FULL, 3, 0x4000_0000], 0),
-            (&[FULL, FULL, FULL, FULL, 4], 3),
-            (&[0xC000_0000, 0xC000_0000], 1),
-            (&[0x8000_0000], 2),
-            (&[0x40FF_FFFF], 0),
-            (&[0x4100_0000], 4),
-            (&[0xC000_0001], 6),
-            (&[1, 0xC000_0000], 7),
-            (&[1, 0xC000_0001], 6),
+        let cases: [(&[u32], Option<u8>); 9] = [
+            (&[FULL, FULL, FULL, FULL, 3, 0x4000_0000], None),
+            (&[FULL, FULL, FULL, FULL, 4], Some(3)),
+            (&[0xC000_0000, 0xC000_0000], Some(1)),
+            (&[0x8000_0000], Some(2)),
+            (&[0x40FF_FFFF], None),
+            (&[0x4100_0000], Some(4)),
+            (&[0xC000_0001], Some(6)),
+            (&[1, 0xC000_0000], Some(7)),
+            (&[1, 0xC000_0001], Some(6)),
         ];
         for (words, number) in cases {
             assert_eq!(rt; refused(&mut Feed::new(), words), number);
@@ -70,7 +73,7 @@ mod tests {
         assert!(rt; feed.begin(1).is_err());
         let mut last = Feed::new();
         last.begin(LAST_NUMBER)?;
-        assert_eq!(rt; refused(&mut last, &[0x4000_0000, 0x4000_0000]), 5);
+        assert_eq!(rt; refused(&mut last, &[0x4000_0000, 0x4000_0000]), Some(5));
         Ok(())
     }
 

@@ -84,7 +84,7 @@ impl Feed {
         ensures state { state_of self.new ≡ record { next = self.old.next + 1; pending = 0; begun = true; ended = self.old.ended } }
     {
         let number = self.next;
-        let sample = Sample::low(self.pending, letters);
+        let sample = Sample::new(self.pending, letters).unwrap();
         self.next += 1;
         self.pending = 0;
         self.begun = true;

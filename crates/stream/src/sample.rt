@@ -22,13 +22,6 @@ impl Sample {
         Ok(Sample { gap, letters })
     }
 
-    pub(crate) fn low(gap: u32, letters: u32) -> Sample
-        requires { letters < 2 ^ 24 }
-        ensures { (result.gap ≡ gap) × (result.letters ≡ letters) }
-    {
-        Sample { gap, letters }
-    }
-
     pub fn gap(&self) -> u32
         ensures { result ≡ self.now.gap }
     {

@@ -7,26 +7,20 @@ use crate::letter::Letter;
 use crate::refusal::Refusal;
 use crate::sample::Sample;
 
-/// What a signal looks at: every sample, or those with a letter.
-#[derive(Clone, Copy, PartialEq, Eq, Debug)]
-enum Source {
-    Every,
-    Letter(Letter),
-}
-
 /// A condition on one sample: a letter, or `*`, which holds at every sample; with `!` before it, where the bare one does not hold.
 #[derive(Clone, Copy, PartialEq, Eq, Debug)]
 pub struct Signal {
-    source: Source,
+    /// The letter that it looks for; none for `*`.
+    letter: Option<Letter>,
     negated: bool,
 }
 
 impl Signal {
-    fn bare(source: Source) -> Signal
-        ensures { result ≡ bare_signal source }
+    fn bare(letter: Option<Letter>) -> Signal
+        ensures { result ≡ bare_signal letter }
     {
         Signal {
-            source,
+            letter,
             negated: false,
         }
     }
@@ -36,7 +30,7 @@ impl Signal {
         ensures value { result ≡ every_signal }
         ensures meaning { (x : Sample) → holds_at result x ≡ true }
     {
-        Signal::bare(Source::Every)
+        Signal::bare(None)
     }
 
     /// The signal of a letter, by its bit from a, which is 0, to x, which is 23.
@@ -44,7 +38,7 @@ impl Signal {
         ensures value { MatchResult result (λ p. (low : bit < 24) × (p ≡ letter_signal bit low)) (λ e. (e ≡ HighSignal) × (24 ≤ bit)) }
         ensures meaning { IfOk result (λ p. (x : Sample) → holds_at p x ≡ has_letter bit x) }
     {
-        Ok(Signal::bare(Source::Letter(Letter::new(bit)?)))
+        Ok(Signal::bare(Some(Letter::new(bit)?)))
     }
 
     /// The signal with `!` before it.
@@ -53,8 +47,8 @@ impl Signal {
         ensures meaning { (x : Sample) → holds_at result x ≡ not (holds_at self x) }
     {
         Signal {
-            source: self.source,
             negated: !self.negated,
+            ..self
         }
     }
 
@@ -62,10 +56,6 @@ impl Signal {
     pub fn holds(&self, sample: &Sample) -> bool
         ensures { result ≡ holds_at self.now sample.now }
     {
-        let bare = match self.source {
-            Source::Every => true,
-            Source::Letter(letter) => sample.has(letter),
-        };
-        bare != self.negated
+        self.letter.is_none_or(|letter| sample.has(letter)) != self.negated
     }
 }

@@ -1,10 +1,7 @@
 use Rattle.std.proofs.Common.{◌≡◌, ◌-◌, length, take, replicate, ap, ◌∙◌, arith, length-take}
 use Rattle.stream.specs.Sending.{full_gap}
-use Rattle.stream.proofs.Sends.{put_short, put_done}
+use Rattle.stream.proofs.Sends.{put_done}
 use Rattle.stream.proofs.sender.put_words.Goals as goal
-
-pub returns-then-out-gaps : goal.returns-then-out-gaps
-returns-then-out-gaps c = put_short c.args.fulls c.args.rest c.args.letters c.args.out.now _ c.from.ensures c.if-out-gaps.true
 
 pub returns : goal.returns
 returns c =

@@ -1,7 +1,6 @@
 -- answer p by s within t.
-use Rattle.std.proofs.Common.{◌≡◌, ℕ, zero, suc, ◌-◌, ◌<◌, ◌≤◌, Bool, true, false, List, refl, arith}
-use Rattle.monitor.specs.declared.clock.Clock.{Clock}
-use Rattle.monitor.specs.declared.clock.Clock.TheVariants.{Stopped, Running}
+use Rattle.std.proofs.Common.{◌≡◌, ℕ, zero, suc, ◌-◌, ◌<◌, ◌≤◌, Bool, true, false, List, refl, arith, Some, None}
+use Rattle.monitor.specs.Clocks.{Clock}
 use Rattle.std.proofs.lemmas.Bool.{both_ways}
 use Rattle.stream.specs.declared.sample.Sample.{Sample}
 use Rattle.stream.specs.declared.signal.Signal.{Signal}
@@ -26,13 +25,13 @@ module _ (p s : Signal) (t : Ticks) (l : List Sample) where
   answer_next : (k : ℕ) (o : Clock) (bp bs : Bool) → holds_at p (nth l (suc k)) ≡ bp → holds_at s (nth l (suc k)) ≡ bs
       → Says l A k (suc k) o → Says l A (suc k) (suc k) (answer_turn o t.value bp bs).clock
   answer_next k o bp true ep es h = λ i a b hp none. none (suc k) b (omega arith) es
-  answer_next k Stopped true false ep es h = starts l A k (ep, both_ways _ es, h)
-  answer_next k Stopped false false ep es h =
+  answer_next k None true false ep es h = starts l A k (ep, both_ways _ es, h)
+  answer_next k None false false ep es h =
       λ i a b hp none. upto (λ i. has p l i → ⊥) k (both_ways _ ep) i b (λ e hp. h i a e hp (λ m x y. none m x (omega arith))) hp
-  answer_next k (Running c) true false ep es h = goes_on l A k c (both_ways _ es) h
-  answer_next k (Running c) false false ep es h = goes_on l A k c (both_ways _ es) h
+  answer_next k (Some c) true false ep es h = goes_on l A k c (both_ways _ es) h
+  answer_next k (Some c) false false ep es h = goes_on l A k c (both_ways _ es) h
 
-  answer_says : (k : ℕ) → Says l A k k (clock_at (Answer p s t) Stopped l k)
+  answer_says : (k : ℕ) → Says l A k k (clock_at (Answer p s t) None l k)
   answer_says = says l A (Answer p s t) (λ i a b. absurd (omega arith)) (λ k o h. answer_next k _ _ _ refl refl (later l A k o h))
 
   pub answer_sound : Fault (Answer p s t) l → Sentence (Answer p s t) l

@@ -1,7 +1,6 @@
 -- hold p least t, and hold p under t.
-use Rattle.std.proofs.Common.{◌≡◌, ℕ, zero, suc, ◌-◌, ◌<◌, ◌≤◌, Bool, true, false, ◌⊎◌, List, refl, ap, inl, inr, ⊎_elim, arith}
-use Rattle.monitor.specs.declared.clock.Clock.{Clock}
-use Rattle.monitor.specs.declared.clock.Clock.TheVariants.{Stopped, Running}
+use Rattle.std.proofs.Common.{◌≡◌, ℕ, zero, suc, ◌-◌, ◌<◌, ◌≤◌, Bool, true, false, ◌⊎◌, List, refl, ap, inl, inr, ⊎_elim, arith, Some, None}
+use Rattle.monitor.specs.Clocks.{Clock}
 use Rattle.std.proofs.lemmas.Bool.{both_ways, and_parts, and_from, not-true, not_from_false}
 use Rattle.stream.specs.declared.sample.Sample.{Sample}
 use Rattle.stream.specs.declared.signal.Signal.{Signal}
@@ -23,15 +22,15 @@ module _ (p : Signal) (t : Ticks) (l : List Sample) where
   H = record { off = Apart; start = λ a. has p l a × Apart (prev a); on = has p l }
 
   held_next : (k : ℕ) (o : Clock) (bp : Bool) → holds_at p (nth l (suc k)) ≡ bp → Says l H k (suc k) o → Says l H (suc k) (suc k) (while o bp)
-  held_next k Stopped true ep h = starts l H k (ep, h)
-  held_next k Stopped false ep h = inr (both_ways _ ep)
-  held_next k (Running c) true ep h = goes_on l H k c ep h
-  held_next k (Running c) false ep h = inr (both_ways _ ep)
+  held_next k None true ep h = starts l H k (ep, h)
+  held_next k None false ep h = inr (both_ways _ ep)
+  held_next k (Some c) true ep h = goes_on l H k c ep h
+  held_next k (Some c) false ep h = inr (both_ways _ ep)
 
-  least_says : (k : ℕ) → Says l H k k (clock_at (HoldLeast p t) Stopped l k)
+  least_says : (k : ℕ) → Says l H k k (clock_at (HoldLeast p t) None l k)
   least_says = says l H (HoldLeast p t) (inl refl) (λ k o h. held_next k _ _ refl (later l H k o h))
 
-  under_says : (k : ℕ) → Says l H k k (clock_at (HoldUnder p t) Stopped l k)
+  under_says : (k : ℕ) → Says l H k k (clock_at (HoldUnder p t) None l k)
   under_says = says l H (HoldUnder p t) (inl refl) (λ k o h. held_next k _ _ refl (later l H k o h))
 
   began : (a : ℕ) → 1 ≤ a → Apart (prev a) → (a ≡ 1) ⊎ (has p l (a - 1) → ⊥)

@@ -1,7 +1,6 @@
 -- keep s for t since p.
-use Rattle.std.proofs.Common.{◌≡◌, ℕ, zero, suc, ◌≤◌, Bool, true, false, List, refl, arith}
-use Rattle.monitor.specs.declared.clock.Clock.{Clock}
-use Rattle.monitor.specs.declared.clock.Clock.TheVariants.{Stopped, Running}
+use Rattle.std.proofs.Common.{◌≡◌, ℕ, zero, suc, ◌≤◌, Bool, true, false, List, refl, arith, Some, None}
+use Rattle.monitor.specs.Clocks.{Clock}
 use Rattle.std.proofs.lemmas.Bool.{both_ways, and_parts, and_from, not-true, not_from_false}
 use Rattle.stream.specs.declared.sample.Sample.{Sample}
 use Rattle.stream.specs.declared.signal.Signal.{Signal}
@@ -21,10 +20,10 @@ module _ (s : Signal) (t : Ticks) (p : Signal) (l : List Sample) where
 
   keep_next : (k : ℕ) (o : Clock) (bp bs : Bool) → holds_at p (nth l (suc k)) ≡ bp → Says l K k (suc k) o → Says l K (suc k) (suc k) (keep_turn o t.value bp bs).clock
   keep_next k o true bs ep h = starts l K k ep
-  keep_next k Stopped false bs ep h = λ i a b. upto (λ i. has p l i → ⊥) k (both_ways _ ep) i b (h i a)
-  keep_next k (Running c) false bs ep h = goes_on l K k c (both_ways _ ep) h
+  keep_next k None false bs ep h = λ i a b. upto (λ i. has p l i → ⊥) k (both_ways _ ep) i b (h i a)
+  keep_next k (Some c) false bs ep h = goes_on l K k c (both_ways _ ep) h
 
-  keep_says : (k : ℕ) → Says l K k k (clock_at (Keep s t p) Stopped l k)
+  keep_says : (k : ℕ) → Says l K k k (clock_at (Keep s t p) None l k)
   keep_says = says l K (Keep s t p) (λ i a b. absurd (omega arith)) (λ k o h. keep_next k _ _ (holds_at s (nth l (suc k))) refl (later l K k o h))
 
   pub keep_sound : Fault (Keep s t p) l → Sentence (Keep s t p) l

@@ -1,13 +1,11 @@
 -- never p, and never p from t.
-use Rattle.std.proofs.Common.{◌≡◌, ℕ, zero, suc, List, refl, ap, arith}
-use Rattle.monitor.specs.declared.clock.Clock.{Clock}
-use Rattle.monitor.specs.declared.clock.Clock.TheVariants.{Stopped, Running}
+use Rattle.std.proofs.Common.{◌≡◌, ℕ, zero, suc, List, refl, ap, arith, Some, None}
 use Rattle.std.proofs.lemmas.Bool.{and_parts, and_from}
 use Rattle.stream.specs.declared.sample.Sample.{Sample}
 use Rattle.stream.specs.declared.signal.Signal.{Signal}
 use Rattle.monitor.specs.declared.limit.Ticks.{Ticks}
 use Rattle.monitor.specs.declared.pattern.Pattern.TheVariants.{Never, NeverFrom}
-use Rattle.monitor.specs.Clocks.{begun}
+use Rattle.monitor.specs.Clocks.{Clock, begun}
 use Rattle.monitor.specs.Sentences.{Sentence}
 use Rattle.monitor.proofs.Runs.{clock_at, Fault}
 use Rattle.monitor.proofs.Readings.{Counting, Says, starts, goes_on, later, says, reached_true, reached_from}
@@ -25,10 +23,10 @@ module _ (p : Signal) (t : Ticks) (l : List Sample) where
   N = record { off = λ k. k ≡ 0; start = λ a. a ≡ 1; on = λ _. Unit {0} }
 
   from_next : (k : ℕ) (o : Clock) → Says l N k (suc k) o → Says l N (suc k) (suc k) (begun o)
-  from_next k Stopped h = starts l N k (ap suc h)
-  from_next k (Running c) h = goes_on l N k c tt h
+  from_next k None h = starts l N k (ap suc h)
+  from_next k (Some c) h = goes_on l N k c tt h
 
-  from_says : (k : ℕ) → Says l N k k (clock_at (NeverFrom p t) Stopped l k)
+  from_says : (k : ℕ) → Says l N k k (clock_at (NeverFrom p t) None l k)
   from_says = says l N (NeverFrom p t) refl (λ k o h. from_next k _ (later l N k o h))
 
   pub from_sound : Fault (NeverFrom p t) l → Sentence (NeverFrom p t) l

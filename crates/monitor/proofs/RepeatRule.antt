@@ -1,7 +1,6 @@
 -- repeat p within t.
-use Rattle.std.proofs.Common.{◌≡◌, ℕ, suc, ◌-◌, ◌≤◌, Bool, true, false, ◌⊎◌, List, refl, ap, inl, inr, ⊎_elim, arith}
-use Rattle.monitor.specs.declared.clock.Clock.{Clock}
-use Rattle.monitor.specs.declared.clock.Clock.TheVariants.{Stopped, Running}
+use Rattle.std.proofs.Common.{◌≡◌, ℕ, suc, ◌-◌, ◌≤◌, Bool, true, false, ◌⊎◌, List, refl, ap, inl, inr, ⊎_elim, arith, Some, None}
+use Rattle.monitor.specs.Clocks.{Clock}
 use Rattle.std.proofs.lemmas.Bool.{both_ways}
 use Rattle.stream.specs.declared.sample.Sample.{Sample}
 use Rattle.stream.specs.declared.signal.Signal.{Signal}
@@ -21,10 +20,10 @@ module _ (p : Signal) (t : Ticks) (l : List Sample) where
 
   repeat_next : (k : ℕ) (o : Clock) (bp : Bool) → holds_at p (nth l (suc k)) ≡ bp → Says l R k (suc k) o → Says l R (suc k) (suc k) (repeat_turn o t.value bp).clock
   repeat_next k o true ep h = starts l R k (inr ep)
-  repeat_next k Stopped false ep h = starts l R k (inl (ap suc h))
-  repeat_next k (Running c) false ep h = goes_on l R k c (both_ways _ ep) h
+  repeat_next k None false ep h = starts l R k (inl (ap suc h))
+  repeat_next k (Some c) false ep h = goes_on l R k c (both_ways _ ep) h
 
-  repeat_says : (k : ℕ) → Says l R k k (clock_at (Repeat p t) Stopped l k)
+  repeat_says : (k : ℕ) → Says l R k k (clock_at (Repeat p t) None l k)
   repeat_says = says l R (Repeat p t) refl (λ k o h. repeat_next k _ _ refl (later l R k o h))
 
   pub repeat_sound : Fault (Repeat p t) l → Sentence (Repeat p t) l

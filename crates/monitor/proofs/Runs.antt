@@ -1,8 +1,7 @@
 -- A rule's run by sample numbers, and where it is lost.
-use Rattle.std.specs.Prelude.{◌≡◌, ℕ, zero, suc, ◌<◌, Bool, true, false, ◌||◌, List, [], ◌∷◌, length, Decides, refl}
+use Rattle.std.specs.Prelude.{◌≡◌, ℕ, zero, suc, ◌<◌, Bool, true, false, ◌||◌, List, [], ◌∷◌, length, Decides, refl, None}
 use Rattle.std.proofs.Common.{sym, ap, ap₂, ◌∙◌, ⊎_elim, arith}
-use Rattle.monitor.specs.declared.clock.Clock.{Clock}
-use Rattle.monitor.specs.declared.clock.Clock.TheVariants.{Stopped}
+use Rattle.monitor.specs.Clocks.{Clock}
 use Rattle.std.proofs.lemmas.Bool.{or_cases, or_left, or_right, cases_lt, false≢true}
 use Rattle.stream.specs.declared.sample.Sample.{Sample}
 use Rattle.monitor.specs.declared.pattern.Pattern.{Pattern}
@@ -36,20 +35,20 @@ run_lost p (x ∷ l) c b = run_lost p l (turn_of p c x).clock (b || (turn_of p c
 
 -- a run is lost exactly where there is a fault
 abbrev pub Fault : Pattern → List Sample → Type 0
-Fault p l = (m : ℕ) × (m < length l) × (fault_at p Stopped l m ≡ true)
+Fault p l = (m : ℕ) × (m < length l) × (fault_at p None l m ≡ true)
 
-lost_fault : (p : Pattern) (l : List Sample) (k : ℕ) → lost_at p Stopped false l k ≡ true → (m : ℕ) × (m < k) × (fault_at p Stopped l m ≡ true)
+lost_fault : (p : Pattern) (l : List Sample) (k : ℕ) → lost_at p None false l k ≡ true → (m : ℕ) × (m < k) × (fault_at p None l m ≡ true)
 lost_fault p l zero h = absurd (false≢true h)
 lost_fault p l (suc k) h =
     ⊎_elim (λ e. let r = lost_fault p l k e in (r.0, omega arith, r.2)) (λ e. (k, omega arith, e)) (or_cases _ _ h)
 
-fault_lost : (p : Pattern) (l : List Sample) (m k : ℕ) → m < k → fault_at p Stopped l m ≡ true → lost_at p Stopped false l k ≡ true
+fault_lost : (p : Pattern) (l : List Sample) (m k : ℕ) → m < k → fault_at p None l m ≡ true → lost_at p None false l k ≡ true
 fault_lost p l m zero h f = absurd (omega arith)
 fault_lost p l m (suc k) h f =
     ⊎_elim (λ e. or_left _ _ (fault_lost p l m k e f)) (λ e. or_right _ _ (let same : m ≡ k = omega arith in rw same at f)) (cases_lt m k)
 
-pub decided : (p : Pattern) (l : List Sample) (S : Type 0) → (Fault p l → S) → (S → Fault p l) → Decides (fails_rule (record { pattern = p; clock = Stopped; lost = false }) l) S
+pub decided : (p : Pattern) (l : List Sample) (S : Type 0) → (Fault p l → S) → (S → Fault p l) → Decides (fails_rule (record { pattern = p; clock = None; lost = false }) l) S
 decided p l S sound complete = (
-  λ e. sound (lost_fault p l (length l) (sym (run_lost p l Stopped false) ∙ e)),
-  λ s. let f = complete s in run_lost p l Stopped false ∙ fault_lost p l f.0 (length l) f.1 f.2,
+  λ e. sound (lost_fault p l (length l) (sym (run_lost p l None false) ∙ e)),
+  λ s. let f = complete s in run_lost p l None false ∙ fault_lost p l f.0 (length l) f.1 f.2,
 )

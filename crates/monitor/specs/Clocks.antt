@@ -1,28 +1,30 @@
 -- The clock of a rule: how it runs and what is asked of it.
-use Rattle.std.specs.Prelude.{ℕ, ◌+◌, min, Bool, false, nat_le, nat_lt}
-use Rattle.monitor.specs.declared.clock.Clock.{Clock}
-use Rattle.monitor.specs.declared.clock.Clock.TheVariants.{Stopped, Running}
+use Rattle.std.specs.Prelude.{ℕ, ◌+◌, min, Bool, false, Some, None, Option, nat_le, nat_lt}
+
+-- while it runs, the ticks since the sample that the rule counts from
+abbrev pub Clock : Type 0
+Clock = Option ℕ
 
 -- the highest reading: a clock stops there and does not wrap
 abbrev pub highest : ℕ
 highest = 4294967295
 
 abbrev pub advanced : Clock → ℕ → Clock
-advanced Stopped gap = Stopped
-advanced (Running c) gap = Running (min (c + gap) highest)
+advanced None gap = None
+advanced (Some c) gap = Some (min (c + gap) highest)
 
 abbrev pub begun : Clock → Clock
-begun Stopped = Running 0
-begun (Running c) = Running c
+begun None = Some 0
+begun (Some c) = Some c
 
 abbrev pub reached : Clock → ℕ → Bool
-reached Stopped t = false
-reached (Running c) t = nat_le t c
+reached None t = false
+reached (Some c) t = nat_le t c
 
 abbrev pub passed : Clock → ℕ → Bool
-passed Stopped t = false
-passed (Running c) t = nat_lt t c
+passed None t = false
+passed (Some c) t = nat_lt t c
 
 abbrev pub short_of : Clock → ℕ → Bool
-short_of Stopped t = false
-short_of (Running c) t = nat_lt c t
+short_of None t = false
+short_of (Some c) t = nat_lt c t

@@ -26,15 +26,15 @@ mod tests {
 
     const B: u32 = 2;
 
-    // The number of the sample at which the rule is lost, or 0 if it stands. A trace is a list of gaps and letters.
-    fn lost_at(pattern: Pattern, trace: &[(u32, u32)]) -> Result<usize, Refusal> {
+    // The number of the sample at which the rule is lost, if it is. A trace is a list of gaps and letters.
+    fn lost_at(pattern: Pattern, trace: &[(u32, u32)]) -> Result<Option<usize>, Refusal> {
         let mut rule = Rule::new(pattern);
         for (i, (gap, letters)) in trace.iter().enumerate() {
             if rule.judge(Sample::new(*gap, *letters)?) {
-                return Ok(i + 1);
+                return Ok(Some(i + 1));
             }
         }
-        Ok(0)
+        Ok(None)
     }
 
     #[test]
@@ -42,31 +42,52 @@ mod tests {
         let p = Signal::letter(0)?;
         let s = Signal::letter(1)?;
         let t = Ticks::new(5)?;
-        assert_eq!(rt; lost_at(Pattern::Never { p }, &[])?, 0);
-        assert_eq!(rt; lost_at(Pattern::Never { p }, &[(9, A)])?, 1);
-        assert_eq!(rt; lost_at(Pattern::NeverFrom { p, t }, &[(0, A), (4, A)])?, 0);
+        assert_eq!(rt; lost_at(Pattern::Never { p }, &[])?, None);
+        assert_eq!(rt; lost_at(Pattern::Never { p }, &[(9, A)])?, Some(1));
+        assert_eq!(rt;
+            lost_at(Pattern::NeverFrom { p, t }, &[(0, A), (4, A)])?,
+            None
+        );
         assert_eq!(rt;
             lost_at(Pattern::NeverFrom { p, t }, &[(0, A), (4, A), (1, A)])?,
-            3
+            Some(3)
         );
-        assert_eq!(rt; lost_at(Pattern::HoldLeast { p, t }, &[(0, A), (5, 0)])?, 0);
-        assert_eq!(rt; lost_at(Pattern::HoldLeast { p, t }, &[(0, A), (4, 0)])?, 2);
+        assert_eq!(rt;
+            lost_at(Pattern::HoldLeast { p, t }, &[(0, A), (5, 0)])?,
+            None
+        );
+        assert_eq!(rt;
+            lost_at(Pattern::HoldLeast { p, t }, &[(0, A), (4, 0)])?,
+            Some(2)
+        );
         assert_eq!(rt;
             lost_at(Pattern::HoldUnder { p, t }, &[(0, A), (2, 0), (3, A)])?,
-            0
+            None
         );
-        assert_eq!(rt; lost_at(Pattern::HoldUnder { p, t }, &[(0, A), (5, A)])?, 2);
-        assert_eq!(rt; lost_at(Pattern::Repeat { p, t }, &[(0, 0), (5, A)])?, 0);
-        assert_eq!(rt; lost_at(Pattern::Repeat { p, t }, &[(0, 0), (6, A)])?, 2);
-        assert_eq!(rt; lost_at(Pattern::Answer { p, s, t }, &[(0, A), (5, B)])?, 0);
-        assert_eq!(rt; lost_at(Pattern::Answer { p, s, t }, &[(0, A), (6, B)])?, 2);
+        assert_eq!(rt;
+            lost_at(Pattern::HoldUnder { p, t }, &[(0, A), (5, A)])?,
+            Some(2)
+        );
+        assert_eq!(rt; lost_at(Pattern::Repeat { p, t }, &[(0, 0), (5, A)])?, None);
+        assert_eq!(rt;
+            lost_at(Pattern::Repeat { p, t }, &[(0, 0), (6, A)])?,
+            Some(2)
+        );
+        assert_eq!(rt;
+            lost_at(Pattern::Answer { p, s, t }, &[(0, A), (5, B)])?,
+            None
+        );
+        assert_eq!(rt;
+            lost_at(Pattern::Answer { p, s, t }, &[(0, A), (6, B)])?,
+            Some(2)
+        );
         assert_eq!(rt;
             lost_at(Pattern::Keep { s, t, p }, &[(0, A + B), (5, 0)])?,
-            0
+            None
         );
         assert_eq!(rt;
             lost_at(Pattern::Keep { s, t, p }, &[(0, A + B), (4, 0)])?,
-            2
+            Some(2)
         );
         Ok(())
     }
@@ -79,7 +100,7 @@ mod tests {
         // a further p does not restart the clock
         assert_eq!(rt;
             lost_at(Pattern::Answer { p, s, t }, &[(0, A), (4, A), (2, B)])?,
-            3
+            Some(3)
         );
         // a clock that wrapped would stand at 3
         assert_eq!(rt;
@@ -87,7 +108,7 @@ mod tests {
                 Pattern::HoldLeast { p, t },
                 &[(0, A), (u32::MAX, A), (4, 0)],
             )?,
-            0
+            None
         );
         assert!(rt; Ticks::new(1_000_000_000).is_err());
         Ok(())

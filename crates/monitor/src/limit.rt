@@ -4,6 +4,7 @@ ghost use Rattle.stream.specs.declared.refusal.Refusal.TheVariants.{HighLimit};
 use stream::Refusal;
 
 /// The time limit T of a rule, in ticks: at most 999,999,999.
+// A type of its own, and no instance of a bounded number: letters, limits and clause numbers have each another width, another bound and another answer to what is beyond it.
 #[derive(Clone, Copy, PartialEq, Eq, Debug)]
 pub struct Ticks {
     value: u32,

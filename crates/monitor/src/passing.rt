@@ -6,9 +6,9 @@ use stream::Sample;
 
 /// Passes a sample on to a monitor unless that is lost, since it then stays lost. Answers whether it is now lost.
 pub fn judge_on<M: Monitor>(monitor: &mut M, sample: Sample) -> bool
-    ensures after { (l : List Sample) → M.Monitor.fails_now monitor.new l ≡ M.Monitor.fails_now monitor.old (sample ∷ l) }
-    ensures keeps { (l : List Sample) → M.Monitor.fails_new monitor.new l ≡ M.Monitor.fails_new monitor.old l }
-    ensures answer { result ≡ M.Monitor.fails_now monitor.new [] }
+    ensures after { (l : List Sample) → M.fails_now monitor.new l ≡ M.fails_now monitor.old (sample ∷ l) }
+    ensures keeps { (l : List Sample) → M.fails_new monitor.new l ≡ M.fails_new monitor.old l }
+    ensures answer { result ≡ M.fails_now monitor.new [] }
 {
     monitor.lost() || monitor.judge(sample)
 }

@@ -4,7 +4,7 @@ ghost use Rattle.monitor.specs.Sentences.{Sentence};
 ghost use Rattle.monitor.specs.Turns.{while, never_turn, never_from_turn, hold_least_turn, hold_under_turn, repeat_turn, answer_turn, keep_turn, turn_of, unjudged, fails_rule, fresh_rule};
 ghost use Rattle.monitor.specs.Laws.{stays_on};
 
-use crate::clock::Clock;
+use crate::clock::{Clock, begun, later, passed, reached, short_of};
 use crate::judging::Monitor;
 use crate::limit::Ticks;
 use crate::pattern::Pattern;
@@ -21,19 +21,20 @@ fn never(p: bool) -> Turn
     ensures { result ≡ never_turn p }
 {
     Turn {
-        clock: Clock::Stopped,
+        clock: None,
         fault: p,
     }
 }
 
+// The clock is the rule's and the limit its pattern's: a struct of both would be made at each sample, to be taken apart again.
 /// The clock runs since the first sample.
 fn never_from(clock: Clock, t: Ticks, p: bool) -> Turn
     ensures { result ≡ never_from_turn clock t.value p }
 {
-    let clock = clock.begun();
+    let clock = begun(clock);
     Turn {
         clock,
-        fault: p && clock.reached(t),
+        fault: p && reached(clock, t),
     }
 }
 
@@ -41,7 +42,7 @@ fn never_from(clock: Clock, t: Ticks, p: bool) -> Turn
 fn holding(clock: Clock, p: bool) -> Clock
     ensures { result ≡ while clock p }
 {
-    if p { clock.begun() } else { Clock::Stopped }
+    if p { begun(clock) } else { None }
 }
 
 fn hold_least(clock: Clock, t: Ticks, p: bool) -> Turn
@@ -49,7 +50,7 @@ fn hold_least(clock: Clock, t: Ticks, p: bool) -> Turn
 {
     Turn {
         clock: holding(clock, p),
-        fault: !p && clock.short_of(t),
+        fault: !p && short_of(clock, t),
     }
 }
 
@@ -59,7 +60,7 @@ fn hold_under(clock: Clock, t: Ticks, p: bool) -> Turn
     let clock = holding(clock, p);
     Turn {
         clock,
-        fault: clock.reached(t),
+        fault: reached(clock, t),
     }
 }
 
@@ -67,9 +68,9 @@ fn hold_under(clock: Clock, t: Ticks, p: bool) -> Turn
 fn repeat(clock: Clock, t: Ticks, p: bool) -> Turn
     ensures { result ≡ repeat_turn clock t.value p }
 {
-    let late = clock.passed(t);
+    let late = passed(clock, t);
     Turn {
-        clock: if p { Clock::Running(0) } else { clock.begun() },
+        clock: if p { Some(0) } else { begun(clock) },
         fault: late,
     }
 }
@@ -78,10 +79,10 @@ fn repeat(clock: Clock, t: Ticks, p: bool) -> Turn
 fn answer(clock: Clock, t: Ticks, p: bool, s: bool) -> Turn
     ensures { result ≡ answer_turn clock t.value p s }
 {
-    let waiting = if p { clock.begun() } else { clock };
+    let waiting = if p { begun(clock) } else { clock };
     Turn {
-        clock: if s { Clock::Stopped } else { waiting },
-        fault: clock.passed(t),
+        clock: if s { None } else { waiting },
+        fault: passed(clock, t),
     }
 }
 
@@ -89,10 +90,10 @@ fn answer(clock: Clock, t: Ticks, p: bool, s: bool) -> Turn
 fn keep(clock: Clock, t: Ticks, p: bool, s: bool) -> Turn
     ensures { result ≡ keep_turn clock t.value p s }
 {
-    let clock = if p { Clock::Running(0) } else { clock };
+    let clock = if p { Some(0) } else { clock };
     Turn {
         clock,
-        fault: !s && clock.short_of(t),
+        fault: !s && short_of(clock, t),
     }
 }
 
@@ -118,7 +119,7 @@ impl Rule {
     {
         Rule {
             pattern,
-            clock: Clock::Stopped,
+            clock: None,
             lost: false,
         }
     }
@@ -127,7 +128,7 @@ impl Rule {
     fn turn(&self, sample: Sample) -> Turn
         ensures { result ≡ turn_of self.now.pattern self.now.clock sample }
     {
-        let clock = self.clock.later(sample.gap());
+        let clock = later(self.clock, sample.gap());
         match self.pattern {
             Pattern::Never { p } => never(p.holds(&sample)),
             Pattern::NeverFrom { p, t } => never_from(clock, t, p.holds(&sample)),

@@ -11,11 +11,6 @@ use Rattle.layers.specs.Laws.{Lasting}
 pub over_alike : (n : ℕ) {F H G K : List Sample → Bool} → ((x : List Sample) → F x ≡ H x) → ((x : List Sample) → G x ≡ K x) → (l : List Sample) → overrun n F G l ≡ overrun n H K l
 over_alike n e f l = λ i. overrun n (λ x. e x i) (λ x. f x i) l
 
--- no sample
-pub over_left : (n : ℕ) (F G : List Sample → Bool) → (n ≢ 0) → overrun n F G [] ≡ false
-over_left zero F G e = absurd (e refl)
-over_left (suc n) F G e = refl
-
 -- one sample more, which breaks what is below or does not
 module _ (F G : List Sample → Bool) (s : Sample) where
   cut : (n : ℕ) → (n ≢ 0) → F (s ∷ []) ≡ true → (l : List Sample) → overrun (n - 1) G G l ≡ overrun n F G (s ∷ l)

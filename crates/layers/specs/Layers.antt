@@ -6,6 +6,8 @@ use Rattle.stream.specs.Signals.{holds_at}
 use Rattle.layers.specs.declared.after.After.{After}
 use Rattle.layers.specs.declared.either.Either.{Either}
 use Rattle.layers.specs.declared.allow.Allow.{Allow}
+use Rattle.layers.specs.declared.choice.Choice.{Choice}
+use Rattle.layers.specs.declared.choice.Choice.TheVariants.{One, Other}
 
 -- what F says of the part from the first sample that has q on, and false where none has q
 abbrev pub from_first : Signal → (List Sample → Bool) → List Sample → Bool
@@ -40,3 +42,8 @@ module _ {M N : Type 0} where
   -- either: as it stands where F and G are the NOW of the two below, and as new where they are the NEW
   abbrev pub either_fails : (M → List Sample → Bool) → (N → List Sample → Bool) → Either M N → List Sample → Bool
   either_fails F G m l = F m.first l && G m.second l
+
+  -- a choice: as the one that it is, where F and G are likewise
+  abbrev pub choice_fails : (M → List Sample → Bool) → (N → List Sample → Bool) → Choice M N → List Sample → Bool
+  choice_fails F G (One m) l = F m l
+  choice_fails F G (Other n) l = G n l

@@ -2,7 +2,7 @@ ghost use Rattle.std.specs.Prelude.{◌≡◌, List, Decides, refl};
 ghost use Rattle.stream.specs.declared.sample.Sample.{Sample};
 ghost use Rattle.layers.specs.Layers.{after_now, after_new};
 ghost use Rattle.layers.specs.Parts.{Fails, FirstPart};
-ghost use Rattle.layers.specs.Laws.{either_way, from_lasting};
+ghost use Rattle.layers.specs.Laws.{after_lasting, after_lasting_new};
 
 use crate::passing::renewed;
 use monitor::{Monitor, judge_on};
@@ -12,6 +12,7 @@ use stream::{Sample, Signal};
 #[derive(Clone, Copy)]
 pub struct After<M> {
     trigger: Signal,
+    /// A flag, and no enum of two states: both hold the trigger and what is below, and renewing goes back.
     opened: bool,
     below: M,
 }
@@ -19,8 +20,8 @@ pub struct After<M> {
 impl<M: Monitor> After<M> {
     /// The layer over a monitor that is begun as new.
     pub fn new(trigger: Signal, below: M) -> After<M>
-        ensures meaning { (l : List Sample) → Decides (after_new M.Monitor.fails_new result l) (FirstPart trigger (Fails (M.Monitor.fails_new below)) l) }
-        ensures made { (l : List Sample) → after_now M.Monitor.fails_now result l ≡ after_new M.Monitor.fails_new result l }
+        ensures meaning { (l : List Sample) → Decides (⟦<After<M> as Monitor>⟧.fails_new result l) (FirstPart trigger (Fails (M.fails_new below)) l) }
+        ensures made { (l : List Sample) → ⟦<After<M> as Monitor>⟧.fails_now result l ≡ ⟦<After<M> as Monitor>⟧.fails_new result l }
     {
         After {
             trigger,
@@ -31,15 +32,13 @@ impl<M: Monitor> After<M> {
 }
 
 impl<M: Monitor> Monitor for After<M> {
-    ghost fails_now = { after_now M.Monitor.fails_now };
+    ghost fails_now = { after_now M.fails_now };
 
-    ghost fails_new = { after_new M.Monitor.fails_new };
+    ghost fails_new = { after_new M.fails_new };
 
-    ghost lasting_now = { λ m l k h.
-        let lasts = M.Monitor.lasting_now m.below in
-        either_way m.opened _ _ _ _ (lasts l k) (from_lasting m.trigger (M.Monitor.fails_now m.below) lasts l k) h };
+    ghost lasting_now = { after_lasting M.fails_now M.lasting_now };
 
-    ghost lasting_new = { λ m l k h. from_lasting m.trigger (M.Monitor.fails_new m.below) (M.Monitor.lasting_new m.below) l k h };
+    ghost lasting_new = { after_lasting_new M.fails_new M.lasting_new };
 
     ghost starts = { λ m. refl };
 

@@ -2,7 +2,7 @@ ghost use Rattle.std.specs.Prelude.{◌≡◌, suc, List, Decides};
 ghost use Rattle.stream.specs.declared.sample.Sample.{Sample};
 ghost use Rattle.layers.specs.Layers.{allow_now, allow_new};
 ghost use Rattle.layers.specs.Parts.{Fails, Breaks};
-ghost use Rattle.layers.specs.Laws.{over_lasting, over_none};
+ghost use Rattle.layers.specs.Laws.{allow_lasting, allow_lasting_new, allow_none};
 
 use crate::passing::{judge_anew, renewed};
 use monitor::{Monitor, judge_on};
@@ -20,8 +20,8 @@ pub struct Allow<M> {
 impl<M: Monitor> Allow<M> {
     /// The layer over a monitor that is begun as new.
     pub fn new(allowed: u8, below: M) -> Allow<M>
-        ensures meaning { (l : List Sample) → Decides (allow_new M.Monitor.fails_new result l) (Breaks (Fails (M.Monitor.fails_new below)) (suc allowed) l) }
-        ensures made { (l : List Sample) → allow_now M.Monitor.fails_now M.Monitor.fails_new result l ≡ allow_new M.Monitor.fails_new result l }
+        ensures meaning { (l : List Sample) → Decides (⟦<Allow<M> as Monitor>⟧.fails_new result l) (Breaks (Fails (M.fails_new below)) (suc allowed) l) }
+        ensures made { (l : List Sample) → ⟦<Allow<M> as Monitor>⟧.fails_now result l ≡ ⟦<Allow<M> as Monitor>⟧.fails_new result l }
     {
         Allow {
             allowed,
@@ -32,20 +32,15 @@ impl<M: Monitor> Allow<M> {
 }
 
 impl<M: Monitor> Monitor for Allow<M> {
-    ghost fails_now = { allow_now M.Monitor.fails_now M.Monitor.fails_new };
+    ghost fails_now = { allow_now M.fails_now M.fails_new };
 
-    ghost fails_new = { allow_new M.Monitor.fails_new };
+    ghost fails_new = { allow_new M.fails_new };
 
-    ghost lasting_now = { λ m l k h.
-        let lasts = M.Monitor.lasting_now m.below in
-        over_lasting m.left (M.Monitor.fails_now m.below) (M.Monitor.fails_new m.below) lasts (M.Monitor.lasting_new m.below) l k h };
+    ghost lasting_now = { allow_lasting M.fails_now M.lasting_now M.fails_new M.lasting_new };
 
-    ghost lasting_new = { λ m l k h.
-        let G = M.Monitor.fails_new m.below in
-        let lasts = M.Monitor.lasting_new m.below in
-        over_lasting m.allowed G G lasts lasts l k h };
+    ghost lasting_new = { allow_lasting_new M.fails_new M.lasting_new };
 
-    ghost starts = { λ m. over_none m.allowed (M.Monitor.fails_new m.below) (M.Monitor.fails_new m.below) (M.Monitor.starts m.below) };
+    ghost starts = { allow_none M.fails_new M.starts };
 
     fn judge(&mut self, sample: Sample) -> bool {
         // The last failure begins nothing anew, so that a lost layer is one whose monitor is lost.

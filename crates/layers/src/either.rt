@@ -1,9 +1,8 @@
-ghost use Rattle.std.specs.Prelude.{◌≡◌, ◌&&◌, List, [], Decides};
+ghost use Rattle.std.specs.Prelude.{◌≡◌, List, Decides};
 ghost use Rattle.stream.specs.declared.sample.Sample.{Sample};
 ghost use Rattle.layers.specs.Layers.{either_fails};
 ghost use Rattle.layers.specs.Parts.{Fails, Both};
-ghost use Rattle.layers.specs.Laws.{both_lasting};
-ghost use Rattle.std.proofs.Common.{ap};
+ghost use Rattle.layers.specs.Laws.{either_lasting, either_none};
 
 use crate::passing::renewed;
 use monitor::{Monitor, judge_on};
@@ -19,8 +18,8 @@ pub struct Either<A, B> {
 impl<A: Monitor, B: Monitor> Either<A, B> {
     /// The layer over two monitors that are begun as new.
     pub fn new(first: A, second: B) -> Either<A, B>
-        ensures meaning { (l : List Sample) → Decides (either_fails A.Monitor.fails_new B.Monitor.fails_new result l) (Both (Fails (A.Monitor.fails_new first)) (Fails (B.Monitor.fails_new second)) l) }
-        ensures made { (l : List Sample) → either_fails A.Monitor.fails_now B.Monitor.fails_now result l ≡ either_fails A.Monitor.fails_new B.Monitor.fails_new result l }
+        ensures meaning { (l : List Sample) → Decides (⟦<Either<A, B> as Monitor>⟧.fails_new result l) (Both (Fails (A.fails_new first)) (Fails (B.fails_new second)) l) }
+        ensures made { (l : List Sample) → ⟦<Either<A, B> as Monitor>⟧.fails_now result l ≡ ⟦<Either<A, B> as Monitor>⟧.fails_new result l }
     {
         Either {
             first: renewed(first),
@@ -30,15 +29,15 @@ impl<A: Monitor, B: Monitor> Either<A, B> {
 }
 
 impl<A: Monitor, B: Monitor> Monitor for Either<A, B> {
-    ghost fails_now = { either_fails A.Monitor.fails_now B.Monitor.fails_now };
+    ghost fails_now = { either_fails A.fails_now B.fails_now };
 
-    ghost fails_new = { either_fails A.Monitor.fails_new B.Monitor.fails_new };
+    ghost fails_new = { either_fails A.fails_new B.fails_new };
 
-    ghost lasting_now = { λ m. both_lasting (A.Monitor.fails_now m.first) (B.Monitor.fails_now m.second) (A.Monitor.lasting_now m.first) (B.Monitor.lasting_now m.second) };
+    ghost lasting_now = { either_lasting A.fails_now B.fails_now A.lasting_now B.lasting_now };
 
-    ghost lasting_new = { λ m. both_lasting (A.Monitor.fails_new m.first) (B.Monitor.fails_new m.second) (A.Monitor.lasting_new m.first) (B.Monitor.lasting_new m.second) };
+    ghost lasting_new = { either_lasting A.fails_new B.fails_new A.lasting_new B.lasting_new };
 
-    ghost starts = { λ m. ap (λ b. b && B.Monitor.fails_new m.second []) (A.Monitor.starts m.first) };
+    ghost starts = { either_none A.fails_new B.fails_new A.starts B.starts };
 
     fn judge(&mut self, sample: Sample) -> bool {
         let first = judge_on(&mut self.first, sample);

@@ -15,6 +15,7 @@ fn never(bit: u8) -> Result<Rule, Refusal> {
     }))
 }
 
+// It has its like in the tests of monitor: tests of two crates share no code.
 /// The number of the sample at which a monitor that is begun as new is lost, if it is, on samples of these letters.
 fn lost_at<M: Monitor>(monitor: &mut M, letters: &[u32]) -> Result<Option<usize>, Refusal> {
     monitor.renew();

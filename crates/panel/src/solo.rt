@@ -20,7 +20,7 @@ impl<M: Monitor> Solo<M> {
     /// Seats the monitor as it stands.
     pub fn new(monitor: M) -> Solo<M>
         ensures seats { count_solo result ≡ 1 }
-        ensures meaning { (l : List Sample) (k : ℕ) → Decides (fails_solo M.Monitor.fails_now result l k) ((k ≡ 1) × (M.Monitor.fails_now monitor l ≡ true)) }
+        ensures meaning { (l : List Sample) (k : ℕ) → Decides (fails_solo M.fails_now result l k) ((k ≡ 1) × (M.fails_now monitor l ≡ true)) }
     {
         Solo { monitor }
     }
@@ -36,13 +36,13 @@ fn first_where(lost: bool) -> Seats
 impl<M: Monitor> Panel for Solo<M> {
     ghost count = { count_solo };
 
-    ghost fails = { fails_solo M.Monitor.fails_now };
+    ghost fails = { fails_solo M.fails_now };
 
     ghost size = { λ m. (lit≤ tt, lit≤ tt) };
 
-    ghost within = { λ m. solo_within M.Monitor.fails_now m };
+    ghost within = { λ m. solo_within M.fails_now m };
 
-    ghost lasting = { λ m. solo_lasting M.Monitor.fails_now m (M.Monitor.lasting_now m.monitor) };
+    ghost lasting = { λ m. solo_lasting M.fails_now m (M.lasting_now m.monitor) };
 
     fn judge(&mut self, sample: Sample) -> Seats {
         first_where(judge_on(&mut self.monitor, sample))

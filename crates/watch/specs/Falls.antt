@@ -9,20 +9,8 @@ abbrev pub last_or : ℕ → List Numbered → ℕ
 last_or m [] = m
 last_or m (x ∷ xs) = last_or x.number xs
 
--- on the samples T, where F says which seats are lost on a list, seat k is lost at n: `front` is the shortest opening that fails the
--- seat, and n is the number of its last sample, or m if it is empty
-pub record FallsFrom (m : ℕ) (F : List Sample → ℕ → Bool) (T : List Numbered) (k n : ℕ) : Type 0 where
-  pub front : List Numbered
-  pub rest : List Numbered
-  pub splits : T ≡ front ++ rest
-  pub fails : F (bare front) k ≡ true
-  pub shortest : (X Y : List Numbered) → front ≡ X ++ Y → F (bare X) k ≡ true → Y ≡ []
-  pub number : n ≡ last_or m front
-
-abbrev pub Falls : (List Sample → ℕ → Bool) → List Numbered → ℕ → ℕ → Type 0
-Falls F T k n = FallsFrom 0 F T k n
-
--- the same for what fails by a predicate P, as by a sentence
+-- on the samples T, what fails by the predicate P, as by a sentence, is lost at n: `front` is the shortest opening that fails, and n is
+-- the number of its last sample, or m if it is empty
 pub record FallsBy (m : ℕ) (P : List Sample → Type 0) (T : List Numbered) (n : ℕ) : Type 0 where
   pub front : List Numbered
   pub rest : List Numbered
@@ -30,6 +18,13 @@ pub record FallsBy (m : ℕ) (P : List Sample → Type 0) (T : List Numbered) (n
   pub fails : P (bare front)
   pub shortest : (X Y : List Numbered) → front ≡ X ++ Y → P (bare X) → Y ≡ []
   pub number : n ≡ last_or m front
+
+-- the same of seat k, where F says which seats are lost on a list
+abbrev pub FallsFrom : ℕ → (List Sample → ℕ → Bool) → List Numbered → ℕ → ℕ → Type 0
+FallsFrom m F T k n = FallsBy m (λ l. F l k ≡ true) T n
+
+abbrev pub Falls : (List Sample → ℕ → Bool) → List Numbered → ℕ → ℕ → Type 0
+Falls F T k n = FallsFrom 0 F T k n
 
 -- a seat that is lost on a list is lost on each that begins with it
 abbrev pub Lasting : (List Sample → ℕ → Bool) → Type 0

@@ -1,5 +1,5 @@
 -- What holds of every story: a watch that was made on a panel, and then called as often and in whatever order.
-use Rattle.std.specs.Prelude.{◌≡◌, ℕ, Bool, false, List, [], ◌∷◌, ◌++◌, Some, None, Ok, Err, Decides, Result}
+use Rattle.std.specs.Prelude.{◌≡◌, ℕ, Bool, true, false, List, [], ◌∷◌, ◌++◌, Some, None, Ok, Err, Decides, Result}
 use Rattle.stream.specs.declared.refusal.Refusal.{Refusal}
 use Rattle.stream.specs.declared.refusal.Refusal.TheVariants.{NothingWaits}
 use Rattle.stream.specs.declared.sample.Sample.{Sample}
@@ -14,17 +14,16 @@ use Rattle.watch.specs.Order.{In, Sorted, Waits}
 use Rattle.watch.specs.Account.{Account}
 use Rattle.watch.specs.Calls.{read_after, taken, collected_in, Matched, Shows}
 
--- ns are the notices of the seats that are lost on the samples T, each once, by number and then seat
-pub record Notices (F : List Sample → ℕ → Bool) (T : List Numbered) (ns : List Notice) : Type 0 where
-  pub sorted : Sorted ns
-  pub each : (n : Notice) → In n ns → Falls F T n.seat n.number
-  pub all : (n : Notice) → Falls F T n.seat n.number → In n ns
-
--- the same where P says of each seat on which lists it fails
+-- where P says of each seat on which lists it is lost, ns are the notices of the seats that are lost on the samples T, each once, by
+-- number and then seat
 pub record NoticesBy (P : ℕ → List Sample → Type 0) (T : List Numbered) (ns : List Notice) : Type 0 where
   pub sorted : Sorted ns
   pub each : (n : Notice) → In n ns → FallsBy 0 (P n.seat) T n.number
   pub all : (n : Notice) → FallsBy 0 (P n.seat) T n.number → In n ns
+
+-- the same where F says which seats are lost on a list
+abbrev pub Notices : (List Sample → ℕ → Bool) → List Numbered → List Notice → Type 0
+Notices F T ns = NoticesBy (λ k l. F l k ≡ true) T ns
 
 -- there is only one such list
 abbrev pub OneList : Type 0

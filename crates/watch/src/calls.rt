@@ -16,7 +16,7 @@ use stream::{Feed, Numbered, Refusal};
 impl<P: Panel> Watch<P> {
     /// A watch on a panel, before any word. A seat that the panel has lost already has number 0.
     pub fn new(panel: P) -> Watch<P>
-        ensures { Made (P.Panel.fails panel) (P.Panel.count panel) (account P.Panel.count P.Panel.fails result) }
+        ensures { Made (P.fails panel) (P.count panel) (account P.count P.fails result) }
     {
         let ledger = Ledger::new(panel.lost());
         Watch {
@@ -28,34 +28,28 @@ impl<P: Panel> Watch<P> {
 
     /// Numbers the samples from `number` on, while no word was taken.
     pub fn begin(&mut self, number: u64) -> Result<(), Refusal>
-        ensures { Opened (account P.Panel.count P.Panel.fails self.old) number (account P.Panel.count P.Panel.fails self.new) result }
+        ensures { Opened (account P.count P.fails self.old) number (account P.count P.fails self.new) result }
     {
         self.feed.begin(number)
     }
 
     /// Takes the words of a piece in turn, up to the first that is refused. Answers how many were taken, and the refusal if there is one.
     pub fn deliver(&mut self, piece: &[u32]) -> (usize, Option<Refusal>)
-        ensures delivered { Delivered (account P.Panel.count P.Panel.fails self.old) piece.now (account P.Panel.count P.Panel.fails self.new) result.0 result.1 }
+        ensures delivered { Delivered (account P.count P.fails self.old) piece.now (account P.count P.fails self.new) result.0 result.1 }
         ensures numbered { NumbersRight }
     {
-        let mut taken = 0;
-        for word in piece {
-            match self.take(*word) {
-                Ok(()) => taken += 1,
-                Err(refusal) => return (taken, Some(refusal)),
+        for (taken, word) in piece.iter().enumerate() {
+            if let Err(refusal) = self.take(*word) {
+                return (taken, Some(refusal));
             }
         }
-        (taken, None)
+        (piece.len(), None)
     }
 
     fn take(&mut self, word: u32) -> Result<(), Refusal>
-        ensures { Delivered (account P.Panel.count P.Panel.fails self.old) (word ∷ []) (account P.Panel.count P.Panel.fails self.new) (taken_by result) (refusal_in result) }
+        ensures { Delivered (account P.count P.fails self.old) (word ∷ []) (account P.count P.fails self.new) (taken_by result) (refusal_in result) }
     {
-        let completed = match self.feed.take(word) {
-            Ok(completed) => completed,
-            Err(refusal) => return Err(refusal),
-        };
-        if let Some(numbered) = completed {
+        if let Some(numbered) = self.feed.take(word)? {
             self.judge(numbered);
         }
         Ok(())
@@ -64,9 +58,9 @@ impl<P: Panel> Watch<P> {
     /// Has the panel judge a sample, and numbers the seats that it newly loses.
     fn judge(&mut self, numbered: Numbered)
         ensures feed { self.new.feed ≡ self.old.feed }
-        ensures seats { P.Panel.count self.new.panel ≡ P.Panel.count self.old.panel }
-        ensures meaning { (l : List Sample) (k : ℕ) → P.Panel.fails self.new.panel l k ≡ P.Panel.fails self.old.panel (numbered.sample ∷ l) k }
-        ensures number { (k : ℕ) → number_of self.new.ledger k ≡ first_of (number_of self.old.ledger k) (if P.Panel.fails self.old.panel (numbered.sample ∷ []) k then Some numbered.number else None) }
+        ensures seats { P.count self.new.panel ≡ P.count self.old.panel }
+        ensures meaning { (l : List Sample) (k : ℕ) → P.fails self.new.panel l k ≡ P.fails self.old.panel (numbered.sample ∷ l) k }
+        ensures number { (k : ℕ) → number_of self.new.ledger k ≡ first_of (number_of self.old.ledger k) (if P.fails self.old.panel (numbered.sample ∷ []) k then Some numbered.number else None) }
         ensures collected { (k : ℕ) → collected_of self.new.ledger k ≡ collected_of self.old.ledger k }
     {
         let lost = self.panel.judge(numbered.sample);
@@ -75,25 +69,23 @@ impl<P: Panel> Watch<P> {
 
     /// Takes the first waiting notice away, and answers it.
     pub fn collect(&mut self) -> Result<Notice, Refusal>
-        ensures { Collected (account P.Panel.count P.Panel.fails self.old) (account P.Panel.count P.Panel.fails self.new) result }
+        ensures { Collected (account P.count P.fails self.old) (account P.count P.fails self.new) result }
     {
-        let Some(notice) = self.ledger.next(None) else {
-            return Err(Refusal::NothingWaits);
-        };
+        let notice = self.ledger.next(None).ok_or(Refusal::NothingWaits)?;
         self.ledger.collect(notice.seat);
         Ok(notice)
     }
 
     /// The number that the next sample will have.
     pub fn next_number(&self) -> u64
-        ensures { (result ≡ (account P.Panel.count P.Panel.fails self.now).feed.next) × (1 ≤ result) }
+        ensures { (result ≡ (account P.count P.fails self.now).feed.next) × (1 ≤ result) }
     {
         self.feed.next_number()
     }
 
     /// Writes the waiting notices into `out`, by number and then seat, as far as it reaches. Answers how many were written, and how many wait.
     pub fn list(&self, out: &mut [Notice]) -> (usize, usize)
-        ensures listed { Listed (account P.Panel.count P.Panel.fails self.now) out.old out.new result.0 result.1 }
+        ensures listed { Listed (account P.count P.fails self.now) out.old out.new result.0 result.1 }
         ensures few { (result.0 ≤ length out.old) × (result.1 ≤ 64) }
         ensures only { OneWaiting }
     {

@@ -9,7 +9,7 @@ use stream::Refusal;
 impl<P: Panel> Watch<P> {
     /// Delivers the pieces in turn, up to the first word that is refused. Lent pieces may overlap, so that their words can be more than a `usize` counts.
     pub fn deliver_pieces(&mut self, pieces: &[&[u32]]) -> (u128, Option<Refusal>)
-        ensures { Delivered (account P.Panel.count P.Panel.fails self.old) (words pieces.now) (account P.Panel.count P.Panel.fails self.new) result.0 result.1 }
+        ensures { Delivered (account P.count P.fails self.old) (words pieces.now) (account P.count P.fails self.new) result.0 result.1 }
     {
         let mut total: u128 = 0;
         for piece in pieces {
@@ -30,9 +30,9 @@ pub fn deliver_both<P: Panel, Q: Panel>(
     xs: &[&[u32]],
     ys: &[&[u32]],
 ) -> ((u128, Option<Refusal>), (u128, Option<Refusal>))
-    ensures first { Delivered (account P.Panel.count P.Panel.fails a.old) (words xs.now) (account P.Panel.count P.Panel.fails a.new) result.0.0 result.0.1 }
-    ensures second { Delivered (account Q.Panel.count Q.Panel.fails b.old) (words ys.now) (account Q.Panel.count Q.Panel.fails b.new) result.1.0 result.1.1 }
-    ensures alike { Alike (account P.Panel.count P.Panel.fails a.old) (account Q.Panel.count Q.Panel.fails b.old) → words xs.now ≡ words ys.now → (result.0 ≡ result.1) × Alike (account P.Panel.count P.Panel.fails a.new) (account Q.Panel.count Q.Panel.fails b.new) }
+    ensures first { Delivered (account P.count P.fails a.old) (words xs.now) (account P.count P.fails a.new) result.0.0 result.0.1 }
+    ensures second { Delivered (account Q.count Q.fails b.old) (words ys.now) (account Q.count Q.fails b.new) result.1.0 result.1.1 }
+    ensures alike { Alike (account P.count P.fails a.old) (account Q.count Q.fails b.old) → words xs.now ≡ words ys.now → (result.0 ≡ result.1) × Alike (account P.count P.fails a.new) (account Q.count Q.fails b.new) }
     ensures on { AlikeOn }
 {
     let first = a.deliver_pieces(xs);

@@ -23,6 +23,7 @@ pub enum Call<'a> {
 pub enum Answer {
     Begun(Result<(), Refusal>),
     Taken(usize, Option<Refusal>),
+    // An array and a count, and not an `ArrayVec` of what was written: an answer is `Copy`, and shows what `list` left.
     Listed {
         out: [Notice; 64],
         written: usize,
@@ -38,7 +39,7 @@ pub fn chains_tell()
 
 /// What `list` writes into a list with so much room, and what it answers. More than 64 never wait.
 fn look<P: Panel>(watch: &Watch<P>, room: usize) -> ([Notice; 64], usize, usize)
-    ensures { Looked (account P.Panel.count P.Panel.fails watch.now) room result.0 result.1 result.2 }
+    ensures { Looked (account P.count P.fails watch.now) room result.0 result.1 result.2 }
 {
     let mut out = [Notice { seat: 0, number: 0 }; 64];
     let reach = room.min(64);
@@ -48,7 +49,7 @@ fn look<P: Panel>(watch: &Watch<P>, room: usize) -> ([Notice; 64], usize, usize)
 
 /// Makes one call.
 pub fn answer_to<P: Panel>(watch: &mut Watch<P>, call: &Call<'_>) -> Answer
-    ensures { Step (account P.Panel.count P.Panel.fails watch.old) call.now (account P.Panel.count P.Panel.fails watch.new) result }
+    ensures { Step (account P.count P.fails watch.old) call.now (account P.count P.fails watch.new) result }
 {
     match call {
         Call::Begin(number) => Answer::Begun(watch.begin(*number)),
@@ -70,14 +71,14 @@ pub fn answer_to<P: Panel>(watch: &mut Watch<P>, call: &Call<'_>) -> Answer
 
 /// Makes a watch on the panel, makes the calls in turn, as far as there is room for the answers, and hands the watch back.
 pub fn play_into<P: Panel>(panel: P, calls: &[Call<'_>], answers: &mut [Answer]) -> Watch<P>
-    ensures chain { (a : Account) × Made (P.Panel.fails panel) (P.Panel.count panel) a × Chain a (take (length answers.old) calls.now) (take (length calls.now) answers.new) (account P.Panel.count P.Panel.fails result) }
-    ensures story { Story (P.Panel.fails panel) (take (length answers.old) calls.now) (take (length calls.now) answers.new) (account P.Panel.count P.Panel.fails result) }
+    ensures chain { (a : Account) × Made (P.fails panel) (P.count panel) a × Chain a (take (length answers.old) calls.now) (take (length calls.now) answers.new) (account P.count P.fails result) }
+    ensures story { Story (P.fails panel) (take (length answers.old) calls.now) (take (length calls.now) answers.new) (account P.count P.fails result) }
     ensures rest { drop (length calls.now) answers.new ≡ drop (length calls.now) answers.old }
 {
     let mut watch = Watch::new(panel);
     let count = calls.len().min(answers.len());
-    for i in 0..count {
-        answers[i] = answer_to(&mut watch, &calls[i]);
+    for (i, call) in calls[0..count].iter().enumerate() {
+        answers[i] = answer_to(&mut watch, call);
     }
     watch
 }

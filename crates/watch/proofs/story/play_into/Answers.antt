@@ -1,4 +1,5 @@
-use Rattle.std.proofs.Common.{List, length, take, refl, subst, arith}
+use Rattle.std.proofs.Common.{◌-◌, ◌<◌, List, length, take, refl, subst, arith}
+use Rattle.std.proofs.lemmas.List.{length-take, get_or-take}
 use Rattle.watch.specs.declared.story.Call.{Call}
 use Rattle.watch.specs.declared.story.Answer.{Answer}
 use Rattle.watch.specs.Account.{account}
@@ -16,8 +17,10 @@ loop-i-init g c = (none, refl)
 
 pub loop-i-preserved : goal.loop-i-preserved
 loop-i-preserved g c =
-    placed _ _ _ c.args.calls.now c.loop-i.answers c.args.answers.now c.loop-i.i _ _
-    (omega (arith, c.min-count.ensures)) (omega (arith, c.min-count.ensures)) c.loop-i.invariant c.answer_to.ensures
+    let i = c.loop-i.i in
+    let within : i < c.min-count.result - 0 = omega (arith, simp length-take at c.loop-i-test.true) in
+    placed _ _ _ c.args.calls.now c.loop-i.answers c.args.answers.now i _ _
+    (omega (arith, c.min-count.ensures)) (omega (arith, c.min-count.ensures)) c.loop-i.invariant (rw get_or-take at c.answer_to.ensures)
 
 pub returns : goal.returns
 returns g c =

@@ -1,9 +1,8 @@
-use Rattle.std.proofs.Common.{◌≡◌, drop}
+use Rattle.std.proofs.Common.{drop}
 use Rattle.watch.specs.Account.{account}
 use Rattle.watch.proofs.Deliveries.{Rest}
 use Rattle.watch.proofs.watch.Watch.deliver.Given as goal
 
-abbrev pub invariant-loop-word : goal.invariant-loop-word
-invariant-loop-word g l =
-    Rest (account g.P.Panel.count g.P.Panel.fails l.initial.self) l.piece (account g.P.Panel.count g.P.Panel.fails l.self) l.taken (drop l.word-index l.piece)
-    × (l.taken ≡ l.word-index)
+abbrev pub invariant-loop-taken : goal.invariant-loop-taken
+invariant-loop-taken g l =
+    Rest (account g.P.Panel.count g.P.Panel.fails l.initial.self) l.piece (account g.P.Panel.count g.P.Panel.fails l.self) l.taken (drop l.taken l.piece)

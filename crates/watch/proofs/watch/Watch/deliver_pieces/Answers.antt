@@ -1,10 +1,6 @@
 use Rattle.std.proofs.Common.{arith}
-use Rattle.watch.specs.Pieces.{words}
-use Rattle.watch.proofs.Deliveries.{rest_start, piece_more, piece_stop, no_piece}
+use Rattle.watch.proofs.Deliveries.{piece_more, piece_stop, no_piece}
 use Rattle.watch.proofs.watch.Watch.deliver_pieces.Goals as goal
-
-pub loop-piece-init : goal.loop-piece-init
-loop-piece-init g c = (rest_start _ (words c.args.pieces.now), omega arith)
 
 pub loop-piece-preserved : goal.loop-piece-preserved
 loop-piece-preserved g c = (

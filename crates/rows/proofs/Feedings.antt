@@ -2,6 +2,7 @@
 use Rattle.std.proofs.Common.{◌≡◌, ℕ, suc, ◌+◌, ◌*◌, ◌/◌, ◌%◌, ◌^◌, ◌≤◌, true, false, List, [], ◌∷◌, ◌++◌, map, length, Some, None, Option, sym, refl, ap, ◌∙◌, subst, zero-add, arith, length-append}
 use Rattle.std.specs.List.{flat_map, AllByRecursion}
 use Rattle.std.specs.Option.{option_to_list}
+use Rattle.std.proofs.lemmas.Grind.{flat_map-append}
 use Rattle.std.proofs.lemmas.List.{append_assoc, append-nil}
 use Rattle.stream.specs.declared.refusal.Refusal.{Refusal}
 use Rattle.stream.specs.declared.sample.Sample.{Sample}
@@ -29,16 +30,12 @@ length_bytes : (ws : List ℕ) → length (word_bytes ws) ≡ 4 * length ws
 length_bytes [] = refl
 length_bytes (w ∷ ws) = length-append (bytes_of (Some w)) (word_bytes ws) ∙ omega (arith, length_bytes ws)
 
-bytes_append : (xs ys : List ℕ) → word_bytes (xs ++ ys) ≡ word_bytes xs ++ word_bytes ys
-bytes_append [] ys = refl
-bytes_append (x ∷ xs) ys = ap (λ (l : List ℕ). bytes_of (Some x) ++ l) (bytes_append xs ys) ∙ sym (append_assoc (bytes_of (Some x)) (word_bytes xs) (word_bytes ys))
-
 abbrev pub sent_words : List Sample → List ℕ
 sent_words ss = flat_map (λ s. sample_words s.gap s.letters) ss
 
 trace_words : (ss : List Sample) → trace_of ss ≡ word_bytes (sent_words ss)
 trace_words [] = refl
-trace_words (s ∷ ss) = ap (λ (l : List ℕ). sample_bytes s ++ l) (trace_words ss) ∙ sym (bytes_append (sample_words s.gap s.letters) (sent_words ss))
+trace_words (s ∷ ss) = ap (λ (l : List ℕ). sample_bytes s ++ l) (trace_words ss) ∙ sym (flat_map-append (λ w. bytes_of (Some w)) (sample_words s.gap s.letters) (sent_words ss))
 
 -- words after words
 abbrev both : Fed → Fed → Fed

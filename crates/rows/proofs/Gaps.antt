@@ -1,13 +1,12 @@
 -- The gap of a row: digits in base ten.
-use Rattle.std.proofs.Common.{◌≡◌, ℕ, ◌+◌, ◌-◌, ◌*◌, ◌^◌, ◌<◌, ◌≤◌, List, map, length, get_or, take, drop, decimal, sym, ap, ◌∙◌, subst, ⊎_elim, arith}
+use Rattle.std.proofs.Common.{◌≡◌, ℕ, ◌+◌, ◌-◌, ◌*◌, ◌^◌, ◌<◌, ◌≤◌, List, length, get_or, take, decimal, sym, ap, ◌∙◌, subst, ⊎_elim, arith}
 use Rattle.std.specs.Str.Parse.{digits_value}
 use Rattle.std.specs.Int.{IsInRange}
 use Rattle.std.specs.Char.{digit_value as digitValue}
 use Rattle.std.proofs.lemmas.Fmt.{decimal_nonempty, decimal_digit, first_decimal, digits_decimal, digits_value-decimal, decimal-digits_value}
-use Rattle.std.specs.Int.Digits.{number_from_digits}
-use Rattle.std.proofs.lemmas.Int.Digits.{digits_value_is, digits_value_more, number_after_append, number_after_ge}
-use Rattle.std.proofs.lemmas.List.{map-append, take_all, take-append-drop}
-use Rattle.std.proofs.lemmas.Str.Parse.{IsNumeralModel, numerals_by_value, tells_by_index}
+use Rattle.std.proofs.lemmas.Int.Digits.{digits_value_more}
+use Rattle.std.proofs.lemmas.List.{take_all}
+use Rattle.std.proofs.lemmas.Str.Parse.{IsNumeralModel, numerals_by_value, tells_by_index, digits_value-take-le}
 use Rattle.std.proofs.lemmas.Bool.{cases_lt}
 use Rattle.std.proofs.lemmas.Bool.Decides.{nat_tests}
 
@@ -19,14 +18,6 @@ own = numerals_by_value AllDigits tells_by_index
 
 pub digits_of : (g : ℕ) → g < 2 ^ 32 → AllDigits (decimal g)
 digits_of g small = digits_decimal own g (omega arith)
-
--- the number grows with its digits
-value_front : (w : List ℕ) (i : ℕ) → digits_value 10 (take i w) ≤ digits_value 10 w
-value_front w i =
-    let front = map digitValue (take i w) in
-    let rest = map digitValue (drop i w) in
-    let whole = digits_value_is 10 w ∙ ap (λ (l : List ℕ). number_from_digits 10 (map digitValue l)) (sym (take-append-drop i w)) ∙ ap (number_from_digits 10) (map-append digitValue (take i w) (drop i w)) ∙ number_after_append 10 0 front rest in
-    omega (arith, whole, digits_value_is 10 (take i w), number_after_ge 10 (number_from_digits 10 front) rest (omega arith))
 
 -- what is no gap
 module _ (w : List ℕ) (g : ℕ) (small : g < 2 ^ 32) (e : w ≡ decimal g) where
@@ -43,7 +34,7 @@ module _ (w : List ℕ) (g : ℕ) (small : g < 2 ^ 32) (e : w ≡ decimal g) whe
       (cases_lt 0 g)
 
   pub not_long : (i : ℕ) → digits_value 10 (take i w) < 2 ^ 32
-  not_long i = omega (arith, value_front w i, ap (digits_value 10) e, digits_value-decimal own g (omega arith))
+  not_long i = omega (arith, digits_value-take-le 10 w i (omega arith), ap (digits_value 10) e, digits_value-decimal own g (omega arith))
 
 -- what is one
 pub is_gap : (w : List ℕ) (i n : ℕ) → length w ≤ i → 0 < length w → (get_or w 0 0 ≡ 48 → length w ≤ 1)
@@ -58,3 +49,6 @@ digit_value c l h = grind (arith, nat_tests)
 
 pub value_turn : (w : List ℕ) (i n : ℕ) → i < length w → 48 ≤ get_or w i 0 → get_or w i 0 ≤ 57 → n ≡ digits_value 10 (take i w) → n * 10 + (get_or w i 0 - 48) ≡ digits_value 10 (take (i + 1) w)
 value_turn w i n h l u before = omega (arith, digits_value_more 10 w i h, digit_value (get_or w i 0) l u)
+
+-- what the reading of a gap needs
+pub ruleset gap_reading = (not_empty, no_other, zero_alone, not_long, is_gap, value_turn)

@@ -2,8 +2,6 @@ pub mod Letters
 pub mod Gaps
 pub mod Cuts
 pub mod Readings
-pub mod Writings
-pub mod Sendings
 pub mod Tellings
 pub mod Feedings
 pub mod Trips

@@ -1,10 +1,12 @@
 -- The parts of a line that is read.
-use Rattle.std.proofs.Common.{◌≡◌, ℕ, ◌+◌, ◌-◌, ◌*◌, ◌%◌, ◌^◌, ◌<◌, ◌≤◌, List, [], ◌∷◌, ◌++◌, length, get_or, take, drop, decimal, sym, ap, ◌∙◌, arith, length-drop, pow_mono}
-use Rattle.std.proofs.lemmas.List.{drop_more, drop_all, take-append-drop}
-use Rattle.std.proofs.lemmas.Bool.{eq-eqb, ne_eqb}
+use Rattle.std.proofs.Common.{◌≡◌, ℕ, ◌+◌, ◌*◌, ◌%◌, ◌^◌, ◌<◌, ◌≤◌, List, [], ◌∷◌, length, take, drop, decimal, Ok, Err, Result, sym, ap, ◌∙◌, ⊎_elim, arith, pow_mono}
+use Rattle.std.proofs.lemmas.Bool.{eq-eqb, ne_eqb, cases_eq}
+use Rattle.std.proofs.lemmas.List.{nil_from_length}
 use Rattle.stream.specs.declared.sample.Sample.{Sample}
-use Rattle.rows.specs.Rows.{letters_in, letters_text, row_text, Sendable, FoundLetters}
+use Rattle.rows.specs.declared.slip.Slip.{Slip}
+use Rattle.rows.specs.Rows.{letters_in, letters_text, row_text, Sendable, ReadAs}
 use Rattle.rows.proofs.Gaps.{digits_of}
+use Rattle.rows.proofs.Letters.{first_letter, letters_tell, no_bits, no_letters, after_set, after_clear}
 use Rattle.rows.proofs.Cuts.{Lacks, FirstAt, cut_front, cut_rest, cut_within}
 
 -- a bit of 32, as the code shifts it
@@ -21,29 +23,30 @@ text_none bits z = rw (eq-eqb bits 0 z)
 pub text_some : (bits : ℕ) → (bits ≡ 0 → ⊥) → letters_text bits ≡ letters_in 24 97 bits
 text_some bits some = rw (ne_eqb bits 0 some)
 
-module _ (line : List ℕ) (start : ℕ) where
-  pub dash : length line - start ≡ 1 → get_or line start 0 ≡ 45 → drop start line ≡ 45 ∷ []
-  dash one is =
-      drop_more line start 0 (omega arith) ∙ ap (λ (x : ℕ). x ∷ drop (start + 1) line) is ∙ ap (λ (l : List ℕ). 45 ∷ l) (drop_all (start + 1) line (omega arith))
+module _ (text : List ℕ) (ls : ℕ) (low : ls < 2 ^ 24) (is : text ≡ letters_text ls) where
+  -- a text has a byte, none follows `-`, and without it there is a letter
+  pub not_none : length text ≡ 0 → ⊥
+  not_none none = ⊎_elim
+      (λ z. omega (arith, ap length (is ∙ text_none ls z)))
+      (λ some. some (letters_tell 24 97 ls 0 low (omega arith) (sym (is ∙ text_some ls some) ∙ nil_from_length text none ∙ sym (no_bits 24 97))))
+      (cases_eq ls 0)
 
-  undash : drop start line ≡ 45 ∷ [] → (length line - start ≡ 1) × (get_or line start 0 ≡ 45)
-  undash e =
-      let one : length line - start ≡ 1 = sym (length-drop start line) ∙ ap length e in
-      let more = drop_more line start 0 (omega arith) in
-      (one, cc)
+  pub dash_ends : (rest : List ℕ) → text ≡ 45 ∷ rest → length rest ≡ 0
+  dash_ends rest e = ⊎_elim
+      (λ z. omega (arith, ap length (sym e ∙ is ∙ text_none ls z)))
+      (λ some. absurd (omega (arith, (first_letter 24 97 ls 45 rest (sym (is ∙ text_some ls some) ∙ e)).0)))
+      (cases_eq ls 0)
 
-  module _ (bits at : ℕ) (found : FoundLetters line start bits at) (no : length line - start ≡ 1 → get_or line start 0 ≡ 45 → ⊥) (ls : ℕ) (low : ls < 2 ^ 24) (e : drop start line ≡ letters_text ls) where
-    some : ls ≡ 0 → ⊥
-    some z = let d = undash (e ∙ text_none ls z) in no d.0 d.1
+pub letters_read : (text : List ℕ) (r : Result ℕ Slip) → (length text ≡ 0 → ⊥) → ((rest : List ℕ) → text ≡ 45 ∷ rest → ⊥)
+    → ReadAs (λ ls. ls < 2 ^ 24) (letters_in 24 97) text r → ReadAs (λ ls. ls < 2 ^ 24) letters_text text r
+letters_read text (Ok ls) some other p = (p.0, p.1 ∙ sym (text_some ls (λ z. some (ap length (p.1 ∙ ap (letters_in 24 97) z ∙ no_bits 24 97)))))
+letters_read text (Err e) some other p = (p.0, λ ls low is. ⊎_elim (λ z. other [] (is ∙ text_none ls z)) (λ more. p.1 ls low (is ∙ text_some ls more)) (cases_eq ls 0))
 
-    only : (length line ≤ at) × (ls ≡ bits)
-    only = found.only ls low (e ∙ text_some ls some)
+-- what the reading of letters needs
+pub ruleset letters_reading = (not_none, dash_ends, letters_read)
 
-    pub letters_some : bits ≡ 0 → ⊥
-    letters_some z = some (only.1 ∙ z)
-
-    pub letters_whole : length line ≤ at
-    letters_whole = only.0
+-- what the writing of letters needs
+pub ruleset letters_writing = (after_set, after_clear, no_letters, text_some)
 
 pub space_lacking : (g : ℕ) → g < 2 ^ 32 → Lacks 32 (decimal g)
 space_lacking g small k h e = let d = digits_of g small k h in omega arith
@@ -61,9 +64,3 @@ module _ (line : List ℕ) (r : ℕ) (first : FirstAt 32 r line) (s : Sample) (s
 
   pub row_letters : drop (r + 1) line ≡ letters_text s.letters
   row_letters = cut_rest 32 r line (decimal s.gap) (letters_text s.letters) first (space_lacking s.gap small) e
-
-pub row_whole : (line : List ℕ) (r : ℕ) (s : Sample) → r < length line → get_or line r 0 ≡ 32 → take r line ≡ decimal s.gap → drop (r + 1) line ≡ letters_text s.letters → line ≡ row_text s
-row_whole line r s h is g l =
-    sym (take-append-drop r line)
-    ∙ ap (λ (xs : List ℕ). take r line ++ xs) (drop_more line r 0 h)
-    ∙ (λ i. g i ++ (is i ∷ l i))

@@ -1,5 +1,5 @@
 -- A row tells its sample, and a text its list of samples.
-use Rattle.std.proofs.Common.{◌≡◌, ℕ, zero, suc, ◌+◌, ◌-◌, ◌/◌, ◌%◌, ◌^◌, ◌<◌, List, [], ◌∷◌, ◌++◌, length, decimal, sym, refl, ap, ◌∙◌, ⊎_elim, pow-suc, arith, length-append}
+use Rattle.std.proofs.Common.{◌≡◌, ℕ, zero, suc, ◌+◌, ◌-◌, ◌/◌, ◌^◌, ◌<◌, List, [], ◌∷◌, ◌++◌, length, decimal, sym, refl, ap, ◌∙◌, ⊎_elim, arith, length-append}
 use Rattle.std.proofs.lemmas.Fmt.{decimal_injective}
 use Rattle.std.proofs.lemmas.List.{append_assoc, get_or_append_left, get_or-append_right}
 use Rattle.std.proofs.lemmas.Bool.{cases_eq, cases_lt}
@@ -9,33 +9,11 @@ use Rattle.rows.specs.Rows.{letters_in, letters_text, row_text, text_of, Sendabl
 use Rattle.rows.specs.Traces.{TextsTell}
 use Rattle.rows.proofs.Cuts.{Lacks, same_front, same_rest}
 use Rattle.rows.proofs.Gaps.{digits_of}
-use Rattle.rows.proofs.Letters.{odd_or_even, letter_set, letter_clear, no_letters, first_letter}
+use Rattle.rows.proofs.Letters.{odd_or_even, letter_set, letter_clear, no_letters, first_letter, letters_tell}
 use Rattle.rows.proofs.Readings.{text_none, text_some, space_lacking}
 
--- letters tell their bits
-unlike : (n letter a b : ℕ) → a % 2 ≡ 1 → b % 2 ≡ 0 → letters_in (suc n) letter a ≡ letters_in (suc n) letter b → ⊥
-unlike n letter a b odd even e =
-    let late = first_letter n (letter + 1) (b / 2) letter (letters_in n (letter + 1) (a / 2)) (sym (letter_clear n letter b even) ∙ sym e ∙ letter_set n letter a odd) in
-    omega arith
-
-pub letters_tell : (n letter a b : ℕ) → a < 2 ^ n → b < 2 ^ n → letters_in n letter a ≡ letters_in n letter b → a ≡ b
-letters_tell zero letter a b la lb e = omega arith
-letters_tell (suc n) letter a b la lb e =
-    let twice = pow-suc 2 n in
-    let halves : letters_in n (letter + 1) (a / 2) ≡ letters_in n (letter + 1) (b / 2) → a / 2 ≡ b / 2 = letters_tell n (letter + 1) (a / 2) (b / 2) (omega arith) (omega arith) in
-    ⊎_elim
-    (λ odd. ⊎_elim
-    (λ odd'. let rest : letters_in n (letter + 1) (a / 2) ≡ letters_in n (letter + 1) (b / 2) = cc (letter_set n letter a odd, letter_set n letter b odd') in omega (arith, halves rest))
-    (λ even'. absurd (unlike n letter a b odd even' e))
-    (odd_or_even b))
-    (λ even. ⊎_elim
-    (λ odd'. absurd (unlike n letter b a odd' even (sym e)))
-    (λ even'. let rest = sym (letter_clear n letter a even) ∙ e ∙ letter_clear n letter b even' in omega (arith, halves rest))
-    (odd_or_even b))
-    (odd_or_even a)
-
 no_dash : (b : ℕ) → (b ≡ 0 → ⊥) → 45 ∷ [] ≡ letters_text b → ⊥
-no_dash b some e = omega (arith, first_letter 24 97 b 45 [] (sym (e ∙ text_some b some)))
+no_dash b some e = omega (arith, (first_letter 24 97 b 45 [] (sym (e ∙ text_some b some))).0)
 
 pub texts_tell : (a b : ℕ) → a < 2 ^ 24 → b < 2 ^ 24 → letters_text a ≡ letters_text b → a ≡ b
 texts_tell a b la lb e =

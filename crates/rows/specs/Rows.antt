@@ -1,5 +1,5 @@
 -- A sample as a readable line: `5 ab`, or `0 -` where no letter holds.
-use Rattle.std.specs.Prelude.{◌≡◌, ℕ, zero, suc, ◌+◌, ◌/◌, ◌%◌, ◌^◌, ◌<◌, ◌≤◌, cond, List, [], ◌∷◌, ◌++◌, length, drop, decimal, Result, MatchResult, ◌==◌, ◌≢◌}
+use Rattle.std.specs.Prelude.{◌≡◌, ℕ, zero, suc, ◌+◌, ◌/◌, ◌%◌, ◌≤◌, cond, List, [], ◌∷◌, ◌++◌, length, decimal, Result, MatchResult, ◌==◌, ◌≢◌}
 use Rattle.std.specs.List.{flat_map}
 use Rattle.stream.specs.declared.sample.Sample.{Sample}
 use Rattle.stream.specs.Words.{longest_gap}
@@ -26,22 +26,16 @@ text_of ss = flat_map (λ s. row_text s ++ (10 ∷ [])) ss
 abbrev pub Sendable : Sample → Type 0
 Sendable s = s.gap ≤ longest_gap
 
+-- a text was read: as the fitting value that is written so, or not, since it is the text of none
+abbrev pub NoneReads : {V : Type 0} → (V → Type 0) → (V → List ℕ) → List ℕ → Slip → Type 0
+NoneReads {V} Fits written text e = (e.column ≤ length text) × ((v : V) → Fits v → text ≢ written v)
+
+abbrev pub ReadAs : {V : Type 0} → (V → Type 0) → (V → List ℕ) → List ℕ → Result V Slip → Type 0
+ReadAs Fits written text r = MatchResult r (λ v. Fits v × (text ≡ written v)) (NoneReads Fits written text)
+
 -- a line was read: as the sample whose row it is, or not, since it is the row of none
 abbrev pub NoRow : List ℕ → Slip → Type 0
-NoRow line e = (e.column ≤ length line) × ((s : Sample) → Sendable s → line ≢ row_text s)
+NoRow = NoneReads Sendable row_text
 
 abbrev pub ReadRow : List ℕ → Result Sample Slip → Type 0
-ReadRow line r = MatchResult r (λ s. Sendable s × (line ≡ row_text s)) (NoRow line)
-
--- from `start` on these letters stand in order, up to the column `at`, and no row has others there
-pub record FoundLetters (line : List ℕ) (start bits at : ℕ) : Type 0 where
-  pub low : bits < 2 ^ 24
-  pub within : at ≤ length line
-  pub whole : length line ≤ at → drop start line ≡ letters_in 24 97 bits
-  pub only : (ls : ℕ) → ls < 2 ^ 24 → drop start line ≡ letters_in 24 97 ls → (length line ≤ at) × (ls ≡ bits)
-
--- this text stands at the start of a list, in n bytes, and what stood beyond them stays
-pub record Written (text before : List ℕ) (n : ℕ) (after : List ℕ) : Type 0 where
-  pub count : n ≡ length text
-  pub within : n ≤ length before
-  pub list : after ≡ text ++ drop n before
+ReadRow = ReadAs Sendable row_text

@@ -8,11 +8,13 @@ use Rattle.stream.specs.Bytes.{held_by, bytes_of}
 use Rattle.stream.specs.Words.{State, state_of, kind, last_number, Took}
 use Rattle.stream.specs.Sending.{sample_words}
 use Rattle.stream.specs.Traces.{fed_by}
+use Rattle.arrayvec.specs.ArrayString.{ArrayString}
+use Rattle.arrayvec.specs.ArrayVec.{ArrayVec}
 use Rattle.rows.specs.declared.slip.Slip.{Slip}
 use Rattle.rows.specs.declared.decoder.Decoder.{Decoder}
 use Rattle.rows.specs.declared.decoder.Entry.{Entry}
 use Rattle.rows.specs.declared.decoder.Entry.TheVariants.{Row, End}
-use Rattle.rows.specs.Rows.{row_text, text_of, Sendable, NoRow, Written}
+use Rattle.rows.specs.Rows.{row_text, text_of, Sendable, NoRow}
 
 -- the bytes of words, four each, the high byte first
 abbrev pub word_bytes : List ℕ → List ℕ
@@ -25,19 +27,19 @@ sample_bytes s = word_bytes (sample_words s.gap s.letters)
 abbrev pub trace_of : List Sample → List ℕ
 trace_of ss = flat_map sample_bytes ss
 
--- a line was encoded: its sample's bytes are written; or it is no row, and all stays
-pub record RowSent (line before : List ℕ) (n : ℕ) (after : List ℕ) : Type 0 where
+-- a line was encoded: these are its sample's bytes; or it is no row
+pub record RowSent (line bytes : List ℕ) : Type 0 where
   pub sample : Sample
   pub sendable : Sendable sample
   pub row : line ≡ row_text sample
-  pub bytes : Written (sample_bytes sample) before n after
+  pub sent : bytes ≡ sample_bytes sample
 
-abbrev pub EncodedRow : List ℕ → List ℕ → Result ℕ Slip → List ℕ → Type 0
-EncodedRow line before r after = MatchResult r (λ n. RowSent line before n after) (λ e. NoRow line e × (after ≡ before))
+abbrev pub EncodedRow : List ℕ → Result (ArrayVec ℕ) Slip → Type 0
+EncodedRow line r = MatchResult r (λ v. RowSent line v.items) (NoRow line)
 
--- a line went to bytes and back: it is written again; or it is no row, and all stays
-abbrev pub Returned : List ℕ → List ℕ → Result ℕ Slip → List ℕ → Type 0
-Returned line before r after = MatchResult r (λ n. Written line before n after) (λ e. NoRow line e × (after ≡ before))
+-- a line went to bytes and back: it is written again; or it is no row
+abbrev pub Returned : List ℕ → Result ArrayString Slip → Type 0
+Returned line r = MatchResult r (λ text. text.bytes ≡ line) (NoRow line)
 
 -- what a decoder says of a word to which the feed answers so
 abbrev pub entry_of : ℕ → Result (Option Numbered) Refusal → Result (Option Entry) Refusal

@@ -1,6 +1,7 @@
 use stream::{Assembler, Feed, Sample};
 
 /// What a word of a trace can complete: a row, or the whole stream.
+// Two named cases, and not an `Option<Sample>`: in what `push` answers, `Some(None)` would have to be known as the end.
 #[derive(Clone, Copy)]
 pub enum Entry {
     Row(Sample),

@@ -15,7 +15,7 @@ mod writing;
 
 pub use decoder::{Decoder, Entry};
 pub use reading::read_row;
-pub use sending::encode_row;
+pub use sending::{SampleBytes, encode_row};
 pub use slip::{Expected, Slip};
 pub use trip::there_and_back;
-pub use writing::write_row;
+pub use writing::{RowText, write_row};

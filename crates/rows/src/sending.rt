@@ -1,39 +1,38 @@
-ghost use Rattle.std.specs.Prelude.{◌≤◌, length};
-ghost use Rattle.rows.specs.Rows.{Written};
+ghost use Rattle.std.specs.Prelude.{◌≡◌, ◌≤◌, length};
 ghost use Rattle.rows.specs.Traces.{word_bytes, sample_bytes, EncodedRow};
 
 use crate::reading::read_row;
 use crate::slip::Slip;
+use arrayvec::ArrayVec;
 use stream::{Sample, write_sample};
 
-/// Writes the bytes by which the sample of a line is sent, and answers how many they are. What stands beyond them in `out` stays,
-/// and after a slip all of it.
-pub fn encode_row(line: &[u8], out: &mut [u8; 24]) -> Result<usize, Slip>
-    ensures { EncodedRow line.now out.old result out.new }
+/// The bytes by which a sample is sent: six words at most, for the longest gap.
+pub type SampleBytes = ArrayVec<u8, 24>;
+
+/// The bytes by which the sample of a line is sent.
+pub fn encode_row(line: &[u8]) -> Result<SampleBytes, Slip>
+    ensures { EncodedRow line.now result }
 {
-    let sample = read_row(line)?;
-    Ok(put_sample(sample, out))
+    Ok(bytes_of_sample(read_row(line)?))
 }
 
-fn put_sample(sample: Sample, out: &mut [u8; 24]) -> usize
-    ensures { Written (sample_bytes sample) out.old result out.new }
+fn bytes_of_sample(sample: Sample) -> SampleBytes
+    ensures { result.items ≡ sample_bytes sample }
 {
-    let mut words = [0u32; 6];
-    let Ok(count) = write_sample(sample.gap(), sample.letters(), &mut words) else {
-        unreachable()
-    };
-    put_words(&words[0..count], out)
+    // A lent list and a count, since `write_sample` promises what stays in the list of its caller.
+    let mut words = [0; 6];
+    let count = write_sample(sample.gap(), sample.letters(), &mut words).unwrap();
+    bytes_of_words(&words[..count])
 }
 
 /// The high byte of each word first.
-fn put_words(words: &[u32], out: &mut [u8; 24]) -> usize
+fn bytes_of_words(words: &[u32]) -> SampleBytes
     requires { length words.now ≤ 6 }
-    ensures { Written (word_bytes words.now) out.old result out.new }
+    ensures { result.items ≡ word_bytes words.now }
 {
-    let mut end = 0;
+    let mut bytes = ArrayVec::new();
     for word in words {
-        out[end..end + 4].copy_from_slice(&word.to_be_bytes());
-        end += 4;
+        bytes.try_extend_from_slice(&word.to_be_bytes()).unwrap();
     }
-    end
+    bytes
 }

@@ -6,22 +6,20 @@ ghost use Rattle.rows.specs.Traces.{sample_bytes, row_in, Returned, TracesComeBa
 use crate::decoder::{Decoder, Entry};
 use crate::sending::encode_row;
 use crate::slip::Slip;
-use crate::writing::write_row;
+use crate::writing::{RowText, write_row};
 use stream::{Refusal, Sample};
 
-/// Encodes a line, decodes its bytes, and writes the row of what came back: the same line. Answers how many bytes it has.
+/// Encodes a line, decodes its bytes, and writes the row of what came back: the same line.
 /// What holds of every list of samples, its bytes and its text, is promised with it.
-pub fn there_and_back(line: &[u8], out: &mut [u8; 35]) -> Result<usize, Slip>
-    ensures row { Returned line.now out.old result out.new }
+#[tactic(auto, using(crate::proofs::Feedings::traces_come_back, crate::proofs::Tellings::text_tells))]
+pub fn there_and_back(line: &[u8]) -> Result<RowText, Slip>
+    ensures row { Returned line.now result }
     ensures traces { TracesComeBack }
     ensures texts { TextsTell }
 {
-    let mut bytes = [0; 24];
-    let count = encode_row(line, &mut bytes)?;
-    let Some(sample) = first_row(&bytes[0..count]) else {
-        unreachable()
-    };
-    Ok(write_row(sample, out))
+    let bytes = encode_row(line)?;
+    let sample = first_row(&bytes).unwrap();
+    Ok(write_row(sample))
 }
 
 /// The first row of a trace.

@@ -1,43 +1,38 @@
-ghost use Rattle.std.specs.Prelude.{◌≤◌, ◌++◌, take, decimal};
-ghost use Rattle.rows.specs.Rows.{letters_text, row_text, Written};
+ghost use Rattle.std.specs.Prelude.{◌≡◌, ◌≤◌, ◌++◌};
+ghost use Rattle.arrayvec.specs.ArrayString.{array_string_len};
+ghost use Rattle.rows.specs.Rows.{letters_text, row_text};
 
+use arrayvec::ArrayString;
 use stream::Sample;
 
-/// Writes the row of a sample, without a line end, and answers how many bytes it has. What stands beyond them in `out` stays.
-pub fn write_row(sample: Sample, out: &mut [u8; 35]) -> usize
-    ensures { Written (row_text sample) out.old result out.new }
+/// The text of a row, without a line end: ten digits, a space and 24 letters at most.
+pub type RowText = ArrayString<35>;
+
+/// The row of a sample.
+// A function, and not `Display`: `Sample` is another crate's, and a type of its own around it would be made only to be printed.
+pub fn write_row(sample: Sample) -> RowText
+    ensures { result.bytes ≡ row_text sample }
 {
-    let space = put_decimal(sample.gap(), out);
-    out[space] = b' ';
-    put_letters(sample.letters(), space + 1, out)
+    let mut row = ArrayString::new();
+    let mut digits = itoa::Buffer::new();
+    row.push_str(digits.format(sample.gap()));
+    row.push(' ');
+    push_letters(sample.letters(), &mut row);
+    row
 }
 
-fn put_decimal(n: u32, out: &mut [u8; 35]) -> usize
-    ensures text { Written (decimal n) out.old result out.new }
-    ensures few { result ≤ 10 }
-{
-    let last = if n < 10 { 0 } else { put_decimal(n / 10, out) };
-    out[last] = b'0' + (n % 10) as u8;
-    last + 1
-}
-
-/// Writes the letters behind the first `start` bytes, and answers where they end.
-fn put_letters(letters: u32, start: usize, out: &mut [u8; 35]) -> usize
-    requires { start ≤ 11 }
-    ensures { Written (take start out.old ++ letters_text letters) out.old result out.new }
+#[tactic(auto, using(std::proofs::lemmas::Grind::common_steps, crate::proofs::Readings::letters_writing))]
+fn push_letters(letters: u32, row: &mut RowText)
+    requires { array_string_len row.old ≤ 11 }
+    ensures { row.new.bytes ≡ row.old.bytes ++ letters_text letters }
 {
     if letters == 0 {
-        out[start] = b'-';
-        return start + 1;
+        row.push('-');
+        return;
     }
-    let mut end = start;
-    let mut bits = letters;
     for letter in b'a'..=b'x' {
-        if bits % 2 == 1 {
-            out[end] = letter;
-            end += 1;
+        if (letters >> (letter - b'a')) % 2 == 1 {
+            row.push(char::from(letter));
         }
-        bits /= 2;
     }
-    end
 }

@@ -1,46 +1,51 @@
-use Rattle.std.proofs.Common.{◌≡◌, ℕ, ◌-◌, ◌<◌, length, take, decimal, sym, ap, ◌∙◌, arith, length-take}
+use Rattle.std.proofs.Common.{◌≡◌, ℕ, ◌+◌, [], ◌∷◌, length, drop, Some, None, Ok, Err, Result, MatchResult, ap, ◌∙◌, subst, arith, rules}
+use Rattle.std.specs.Result.{IsErrAnd}
+use Rattle.rows.specs.declared.slip.Slip.{Slip}
+use Rattle.std.proofs.lemmas.Bool.Decides.{Decides-eqb}
+use Rattle.std.proofs.lemmas.List.{drop_more, drop-drop}
 use Rattle.std.proofs.lemmas.Result.{err_from_is_err_and}
-use Rattle.rows.specs.Rows.{letters_text}
+use Rattle.std.proofs.lemmas.Slice.Eq.{strip_prefix_is}
 use Rattle.rows.proofs.Cuts.{FirstAt}
-use Rattle.rows.proofs.Readings.{row_within, row_gap, row_letters, row_whole}
+use Rattle.rows.proofs.Readings.{row_within, row_gap, row_letters}
 use Rattle.rows.proofs.reading.read_row.Goals as goal
-use Rattle.rows.proofs.reading.read_row.Goals.{After-space_at-space, at-returns-in_err-gap, at-returns-then-space-line, at-returns-in_err-letters, at-returns}
+use Rattle.rows.proofs.reading.read_row.Goals.{After-space_at-space, at-returns-in_err-gap, at-returns-in_default, at-returns-in_err-letters}
 
 first : (c : After-space_at-space) → FirstAt 32 c.space_at-space.result c.args.line.now
 first c = record { before = c.space_at-space.ensures.before; here = c.space_at-space.ensures.here }
-
-front : (c : After-space_at-space) → take (c.space_at-space.result - 0) c.args.line.now ≡ take c.space_at-space.result c.args.line.now
-front c = ap (λ (n : ℕ). take n c.args.line.now) (omega arith)
 
 pub returns-in_err-gap : goal.returns-in_err-gap
 returns-in_err-gap c =
     let p = err_from_is_err_and c.from_residual.result c.from_residual.ensures.1 in
     let before = (at-returns-in_err-gap c).After-space_at-space in
     let known = c.in_err-gap.ensures in
-    let line = c.args.line.now in
-    let short = length-take (c.space_at-space.result - 0) line in
-    rw (p.1, p.2) (omega (arith, known.0), λ s send e. known.1 s.gap (omega arith) (front before ∙ row_gap line _ (first before) s send e))
+    rw (p.1, p.2) (omega (arith, known.0), λ s send e. known.1 s.gap (omega arith) (c.split_at.ensures.front ∙ row_gap c.args.line.now _ (first before) s send e))
 
-pub returns-then-space-line : goal.returns-then-space-line
-returns-then-space-line c =
-    let before = (at-returns-then-space-line c).After-space_at-space in
-    (omega arith, λ s send e. omega (arith, row_within c.args.line.now _ (first before) s send e))
+pub returns-in_default : goal.returns-in_default
+returns-in_default c =
+    let line = c.args.line.now in
+    let space = c.space_at-space.result in
+    let before = (at-returns-in_default c).After-space_at-space in (
+      omega arith,
+      λ s send e.
+          let within = row_within line space (first before) s send e in
+          strip_prefix_is Decides-eqb c.split_at.result.1.now (32 ∷ []) None c.in_default.ensures.cases _ (c.split_at.ensures.back ∙ drop_more line space 0 within ∙ ap (λ (x : ℕ). x ∷ drop (space + 1) line) (c.space_at-space.ensures.here within)),
+    )
+
+-- the slip that was moved, and what became of it
+moved : (r m : Result ℕ Slip) (Good : ℕ → Type 0) (Bad : Slip → Type 0) (Post : Slip → Slip → Type 0) (e : Slip) → m ≡ Err e
+    → MatchResult r Good Bad → MatchResult r (λ x. m ≡ Ok x) (λ s. IsErrAnd m (Post s)) → (s : Slip) × Bad s × Post s e
+moved (Ok x) m Good Bad Post e is known map = absurd cc
+moved (Err s) m Good Bad Post e is known map = (s, known, subst (λ (q : Result ℕ Slip). IsErrAnd q (Post s)) is map)
 
 pub returns-in_err-letters : goal.returns-in_err-letters
 returns-in_err-letters c =
+    let line = c.args.line.now in
     let p = err_from_is_err_and c.from_residual-in_err-letters.result c.from_residual-in_err-letters.ensures.1 in
     let before = (at-returns-in_err-letters c).After-space_at-space in
-    let known = c.in_err-letters.ensures in
-    rw (p.1, p.2) (known.0, λ s send e. known.1 s.letters s.low (row_letters c.args.line.now _ (first before) s send e))
-
-pub returns : goal.returns
-returns c =
-    let line = c.args.line.now in
-    let before = (at-returns c).After-space_at-space in
-    let made = c.in-Ok.ensures in
-    let within : c.space_at-space.result < length line = omega arith in (
-      omega (arith, made.0),
-      row_whole line c.space_at-space.result c.in-Ok.sample within (c.space_at-space.ensures.here within)
-          (sym (front before) ∙ c.in_ok-gap.ensures ∙ ap decimal (sym made.0))
-          (c.in_ok-letters.ensures.1 ∙ ap letters_text (sym made.1)),
+    let slip = moved c.read_letters.result c.map_err.result _ _ _ _ c.in_err-letters.was c.read_letters.ensures c.map_err.ensures.cases in
+    let text = strip_prefix_is Decides-eqb c.split_at.result.1.now (32 ∷ []) (Some c.in-Some.text) c.in-Some.ensures.cases in
+    let column : c.in_err-letters.field-0.0.column ≡ slip.0.column + (c.space_at-space.result + 1) = let told = slip.2 in search rules in
+    rw (p.1, p.2) (
+      omega (arith, column, slip.1.0, ap length text, c.split_at.ensures.back_len),
+      λ s send e. slip.1.1 s.letters s.low (c.in-Some.ensures.cases.1 ∙ ap (drop 1) c.split_at.ensures.back ∙ drop-drop 1 c.space_at-space.result line ∙ row_letters line _ (first before) s send e),
     )

@@ -7,15 +7,15 @@ use Rattle.monitor.specs.declared.pattern.Pattern.TheVariants.{Never, NeverFrom,
 use Rattle.grammar.specs.declared.clause.ClauseNumber.{ClauseNumber}
 use Rattle.grammar.specs.declared.tree.Term.{Term}
 use Rattle.grammar.specs.declared.tree.Line.{Line}
-use Rattle.grammar.specs.declared.snag.Cause.{Cause}
-use Rattle.grammar.specs.declared.snag.Cause.TheVariants.{WordMissing, NumberOwed, WordNotAllowed}
+use Rattle.grammar.specs.declared.fault.Cause.{Cause}
+use Rattle.grammar.specs.declared.fault.Cause.TheVariants.{WordMissing, NumberOwed, WordNotAllowed}
 use Rattle.grammar.specs.declared.token.Keyword.{Keyword}
 use Rattle.grammar.specs.declared.token.Keyword.TheVariants as K
 use Rattle.grammar.specs.Words.{unwords, words_of}
 use Rattle.grammar.specs.Numbers.{number_of}
 use Rattle.grammar.specs.Tokens.{keyword_of}
 use Rattle.grammar.specs.Grammar.{term_words, second_words, allow_words, line_words, Allowed, Begins, Because, Above, NotAbove, FirstFault}
-use Rattle.grammar.specs.Reading.{Ws, Read, got, bad, and_then, gives, made, read_number, read_clause, is_key, starts_by, if_next, read_term, further_term, read_second, allowance, read_allow, line_end, line_of, after_allow, after_second, after_first, after_number, read_line}
+use Rattle.grammar.specs.Reading.{Ws, Read, got, bad, and_then, gives, made, read_number, read_clause, is_key, starts_by, if_next, read_term, further_term, read_second, allowance, read_allow, line_end, whole_line, after_allow, after_second, after_first, after_number, read_line}
 use Rattle.grammar.proofs.Spelled.{Digit, decimal_is, decimal_digits}
 use Rattle.grammar.proofs.Keys.{starts_digit}
 use Rattle.grammar.proofs.Stops.{Owed, Like, Halt, Near, then_bad, then_got, one_front, halt_first, halt_then, near_same, near_cons, halt_seen}
@@ -56,9 +56,9 @@ line_takes ws l rest e =
     let s = second_tail.takes g.1.0 k.0 k.1.0 k.1.1.0 in
     let j = then_got (read_allow k.1.0) (after_allow h.0 g.0 k.0) l rest k.1.1.1 in
     let a = allow_tail.takes k.1.0 j.0 j.1.0 j.1.1.0 in
-    let d = end_takes (line_of h.0 g.0 k.0 j.0) l j.1.0 rest j.1.1.1 in
+    let d = end_takes (whole_line h.0 g.0 k.0 j.0) l j.1.0 rest j.1.1.1 in
     let last : k.1.0 ≡ allow_words j.0 = a.0 ∙ ap (λ z. allow_words j.0 ++ z) d.1 ∙ append-nil (allow_words j.0) in
-    let split : ws ≡ line_words (line_of h.0 g.0 k.0 j.0) = q ∙ ap (λ z. decimal h.0.value ∷ z) (f.0 ∙ ap (λ z. term_words g.0 ++ z) (s ∙ ap (λ z. second_words k.0 ++ z) last)) in
+    let split : ws ≡ line_words (whole_line h.0 g.0 k.0 j.0) = q ∙ ap (λ z. decimal h.0.value ∷ z) (f.0 ∙ ap (λ z. term_words g.0 ++ z) (s ∙ ap (λ z. second_words k.0 ++ z) last)) in
     let both = subst (λ x. (ws ≡ line_words x) × Allowed x.allow) d.0 (split, a.1) in
     (both.0, both.1, d.2)
 
@@ -76,7 +76,7 @@ fit_rest (Repeat p t) s a = tt
 fit_rest (Answer p q t) s a = tt
 fit_rest (Keep q t p) s a = tt
 
-allow_back : (n : ClauseNumber) (f : Term) (s : Option Term) (a : Option ℕ) → Allowed a → after_second n f s (allow_words a) ≡ got (line_of n f s a) []
+allow_back : (n : ClauseNumber) (f : Term) (s : Option Term) (a : Option ℕ) → Allowed a → after_second n f s (allow_words a) ≡ got (whole_line n f s a) []
 unfolding keyword_of
 allow_back n f s None h = refl
 allow_back n f s (Some k) h = ap (λ r. and_then (and_then r (made Some)) (after_allow n f s)) (read_number_lem 0 255 k [] (omega arith) (omega arith) h)
@@ -86,7 +86,7 @@ unfolding keyword_of
 second_none None = refl
 second_none (Some k) = refl
 
-second_back : (n : ClauseNumber) (f : Term) (s : Option Term) (a : Option ℕ) → Allowed a → after_first n f (second_words s ++ allow_words a) ≡ got (line_of n f s a) []
+second_back : (n : ClauseNumber) (f : Term) (s : Option Term) (a : Option ℕ) → Allowed a → after_first n f (second_words s ++ allow_words a) ≡ got (whole_line n f s a) []
 unfolding keyword_of
 second_back n f None a h = ap (λ r. and_then r (after_second n f)) (second_none a) ∙ allow_back n f None a h
 second_back n f (Some t) a h = ap (λ r. and_then (and_then r (made Some)) (after_second n f)) (term_reads t (allow_words a) (fit_rest t.pattern None a)) ∙ allow_back n f (Some t) a h
@@ -115,7 +115,7 @@ end_near n f s a (w ∷ ws) c m e =
     let d : WordNotAllowed ≡ c = cc in
     let k : m ≡ length (unwords (w ∷ ws)) = cc in
     subst (λ d. Near (after_allow n f s a) (w ∷ ws) d m) d (record {
-      halt = record { pre = []; rest = w ∷ ws; more = []; value = line_of n f s a; split = refl; place = k; owed = (λ any. refl, λ v _ any. refl); ends = refl };
+      halt = record { pre = []; rest = w ∷ ws; more = []; value = whole_line n f s a; split = refl; place = k; owed = (λ any. refl, λ v _ any. refl); ends = refl };
       like = tt;
     })
 
@@ -123,7 +123,7 @@ allowed_halt : (n : ClauseNumber) (f : Term) (s : Option Term) (ws : Ws) (c : Ca
 allowed_halt n f s ws c m e =
     let Q : ℕ → Ws → Read Line = λ a. after_allow n f s (Some a) in
     ⊎_elim
-    (λ (b : read_number 0 255 ws ≡ bad c m). halt_first (read_number 0 255) Q ws c m ((number_tail 0 255 (omega arith) (omega arith)).stops ws c m b) (λ a. ([], (line_of n f s (Some a), refl))))
+    (λ (b : read_number 0 255 ws ≡ bad c m). halt_first (read_number 0 255) Q ws c m ((number_tail 0 255 (omega arith) (omega arith)).stops ws c m b) (λ a. ([], (whole_line n f s (Some a), refl))))
     (λ h. halt_then (read_number 0 255) Q ws h.0 h.1.0 c m (one_front NumberOwed (number_of 0 255) ws h.0 h.1.0 h.1.1.0) (end_near n f s (Some h.0) h.1.0 c m h.1.1.1).halt)
     (then_bad (read_number 0 255 ws) Q c m e)
 
@@ -144,7 +144,7 @@ further_halt : (n : ClauseNumber) (f : Term) (ws : Ws) (c : Cause) (m : ℕ) →
 further_halt n f ws c m e =
     let Q : Term → Ws → Read Line = λ t. after_second n f (Some t) in
     ⊎_elim
-    (λ (b : read_term ws ≡ bad c m). halt_first read_term Q ws c m (term_tail.stops ws c m b) (λ t. ([], (line_of n f (Some t) None, refl))))
+    (λ (b : read_term ws ≡ bad c m). halt_first read_term Q ws c m (term_tail.stops ws c m b) (λ t. ([], (whole_line n f (Some t) None, refl))))
     (λ h. halt_seen read_term Q ws h.0 h.1.0 c m (term_seen ws h.0 h.1.0 h.1.1.0) (second_near n f (Some h.0) h.1.0 c m h.1.1.1))
     (then_bad (read_term ws) Q c m e)
 
@@ -164,14 +164,14 @@ first_near n f (w ∷ ws) c m e =
 number_halt : (n : ClauseNumber) (ws : Ws) (c : Cause) (m : ℕ) → after_number n ws ≡ bad c m → Halt (after_number n) ws c m
 number_halt n ws c m e =
     ⊎_elim
-    (λ (b : read_term ws ≡ bad c m). halt_first read_term (after_first n) ws c m (term_tail.stops ws c m b) (λ f. ([], (line_of n f None None, refl))))
+    (λ (b : read_term ws ≡ bad c m). halt_first read_term (after_first n) ws c m (term_tail.stops ws c m b) (λ f. ([], (whole_line n f None None, refl))))
     (λ h. halt_seen read_term (after_first n) ws h.0 h.1.0 c m (term_seen ws h.0 h.1.0 h.1.1.0) (first_near n h.0 h.1.0 c m h.1.1.1))
     (then_bad (read_term ws) (after_first n) c m e)
 
 line_goes : (n : ClauseNumber) → (more : Ws) × ((l : Line) × (after_number n more ≡ got l []))
 line_goes n =
     let g = term_tail.goes in
-    (g.more, (line_of n g.value None None, ap (λ l. and_then (read_term l) (after_first n)) (sym (append-nil g.more)) ∙ ap (λ z. and_then z (after_first n)) (g.ends [])))
+    (g.more, (whole_line n g.value None None, ap (λ l. and_then (read_term l) (after_first n)) (sym (append-nil g.more)) ∙ ap (λ z. and_then z (after_first n)) (g.ends [])))
 
 line_halt : (ws : Ws) (c : Cause) (m : ℕ) → read_line ws ≡ bad c m → Halt read_line ws c m
 line_halt ws c m e =

@@ -1,17 +1,19 @@
 -- A text with a fault is no book, and has no other fault.
-use Rattle.std.proofs.Common.{◌≡◌, ℕ, ◌+◌, ◌-◌, ◌<◌, ◌≤◌, true, false, eqb, ◌⊎◌, List, [], ◌∷◌, ◌++◌, length, get_or, IsErrAnd, Ok, Err, decimal, Result, sym, refl, ap, ◌∙◌, subst, inl, inr, ⊎_elim, append_assoc, append-nil, arith, length-append}
+use Rattle.std.proofs.Common.{◌≡◌, ℕ, ◌-◌, ◌<◌, ◌≤◌, true, false, eqb, ◌⊎◌, List, [], ◌∷◌, ◌++◌, length, get_or, Ok, Err, decimal, Result, sym, refl, ap, ◌∙◌, subst, inl, inr, ⊎_elim, append_assoc, append-nil, arith, length-append}
 use Rattle.std.specs.Str.Parse.{digits_value}
+use Rattle.std.specs.Result.{MatchResult, IsOkAnd, IfErr}
+use Rattle.arrayvec.specs.ArrayVec.{ArrayVec}
 use Rattle.std.proofs.lemmas.Bool.{cond-true, cond-false, cases_Bool, eqb-false}
 use Rattle.std.proofs.lemmas.List.{get_or_push}
 use Rattle.grammar.specs.declared.tree.Line.{Line}
-use Rattle.grammar.specs.declared.snag.Cause.{Cause}
-use Rattle.grammar.specs.declared.snag.Cause.TheVariants as C
+use Rattle.grammar.specs.declared.fault.Cause.{Cause}
+use Rattle.grammar.specs.declared.fault.Cause.TheVariants as C
+use Rattle.grammar.specs.declared.fault.Place.{Place}
 use Rattle.grammar.specs.declared.fault.Fault.{Fault}
-use Rattle.grammar.specs.declared.fault.Fault.TheVariants.{EmptyText, TextTooLong, OpenLine, TooManyLines, NumberNotRising, WordMissing, NumberOwed, WordNotAllowed}
+use Rattle.grammar.specs.declared.fault.Fault.TheVariants.{EmptyText, TextTooLong, OpenLine, TooManyLines, NumberNotRising, AtWord}
 use Rattle.grammar.specs.Words.{up_to, words_of, unwords}
 use Rattle.grammar.specs.Grammar.{line_words, spell, Allowed, Begins, Because, Above, NotAbove, FirstFault}
-use Rattle.grammar.specs.Books.{book_text, Rising, last_from, IsBook, Ended, TooMany, Unended, LineFault, InLine, BookFault, IsOneFault, ReadsBook, ReadsAs, OnlyFault}
-use Rattle.grammar.specs.Contract.{fault_of}
+use Rattle.grammar.specs.Books.{book_text, Rising, last_from, IsBook, Ended, TooMany, Unended, start_behind, further, LineFault, InLine, BookFault, IsOneFault}
 use Rattle.grammar.specs.Reading.{Ws}
 use Rattle.grammar.proofs.LineReading.{number_is}
 use Rattle.grammar.proofs.Unique.{Free, words_spell, free_spell, cut_same, first_same, some_text, book_same}
@@ -38,22 +40,13 @@ low_bad k line h l s e up =
     let word : decimal l.number.value ≡ h.first = cc in
     omega (arith, h.low, ap (digits_value 10) word, number_is l)
 
--- a line's fault is of one of two kinds
-abbrev Kind : ℕ → List ℕ → ℕ → ℕ → Fault → Type 0
-Kind k line n start f = ((f ≡ NumberNotRising n start) × NotAbove k line) ⊎ ((c : Cause) × ((p : ℕ) × ((f ≡ fault_of c n (start + p)) × FirstFault k line c p)))
-
-kind : (k : ℕ) (line : List ℕ) (n start : ℕ) (f : Fault) → LineFault k line n start f → Kind k line n start f
-kind k line n start EmptyText h = absurd h
-kind k line n start TextTooLong h = absurd h
-kind k line n start (OpenLine m b) h = absurd h
-kind k line n start (TooManyLines b) h = absurd h
-kind k line n start (NumberNotRising m b) (e, (s, h)) = inl ((λ i. NumberNotRising (e i) (s i)), h)
-kind k line n start (WordMissing m b) (e, (p, (s, h))) = inr (C.WordMissing, (p, ((λ i. WordMissing (e i) (s i)), h)))
-kind k line n start (NumberOwed m b) (e, (p, (s, h))) = inr (C.NumberOwed, (p, ((λ i. NumberOwed (e i) (s i)), h)))
-kind k line n start (WordNotAllowed m b) (e, (p, (s, h))) = inr (C.WordNotAllowed, (p, ((λ i. WordNotAllowed (e i) (s i)), h)))
-
-fault_bad : (k : ℕ) (line : List ℕ) (n start : ℕ) (f : Fault) → LineFault k line n start f → Bad k line
-fault_bad k line n start f h = ⊎_elim (λ t. low_bad k line t.1) (λ t. first_bad k line t.0 t.1.0 t.1.1.1) (kind k line n start f h)
+fault_bad : (k : ℕ) (line : List ℕ) (start : Place) (f : Fault) → LineFault k line start f → Bad k line
+fault_bad k line start EmptyText h = absurd h
+fault_bad k line start TextTooLong h = absurd h
+fault_bad k line start (OpenLine p) h = absurd h
+fault_bad k line start (TooManyLines b) h = absurd h
+fault_bad k line start (NumberNotRising p) h = low_bad k line h.1
+fault_bad k line start (AtWord c p) h = first_bad k line c h.0 h.1.1
 
 -- a line has one first fault
 
@@ -83,8 +76,8 @@ stuck pre w r C.WordMissing h b = h
 stuck pre w r C.NumberOwed h b = h.0 b
 stuck pre w r C.WordNotAllowed h b = h.0 b
 
-further : (k : ℕ) (line : List ℕ) (c d : Cause) (p q : ℕ) (h : FirstFault k line c p) (g : FirstFault k line d q) (w : List ℕ) (m : Ws) → g.pre ≡ h.pre ++ w ∷ m → h.rest ≡ w ∷ (m ++ g.rest) → ⊥
-further k line c d p q h g w m e r =
+goes_on : (k : ℕ) (line : List ℕ) (c d : Cause) (p q : ℕ) (h : FirstFault k line c p) (g : FirstFault k line d q) (w : List ℕ) (m : Ws) → g.pre ≡ h.pre ++ w ∷ m → h.rest ≡ w ∷ (m ++ g.rest) → ⊥
+goes_on k line c d p q h g w m e r =
     let (l, (fits, (more, same))) = g.begins in
     stuck h.pre w (m ++ g.rest) c (subst (λ z. Because h.pre z c) r h.because) (l, (fits, (m ++ more, same ∙ ap (λ z. z ++ more) e ∙ append_assoc h.pre (w ∷ m) more ∙ sym (append_assoc h.pre (w ∷ []) (m ++ more)))))
 
@@ -106,7 +99,7 @@ snag_same : (k : ℕ) (line : List ℕ) (c d : Cause) (p q : ℕ) → FirstFault
 snag_same k line c d p q h g =
     ⊎_elim
     (λ t. (cause_same g.pre g.rest c d (subst (λ z. Because g.pre z c) t.1 (subst (λ z. Because z h.rest c) t.0 h.because)) g.because, h.place_is ∙ ap (λ z. length line - length (unwords z)) t.1 ∙ sym g.place_is))
-    (λ t. absurd (⊎_elim (λ u. further k line c d p q h g u.0 u.1.0 u.1.1.0 u.1.1.1) (λ u. further k line d c q p g h u.0 u.1.0 u.1.1.0 u.1.1.1) t))
+    (λ t. absurd (⊎_elim (λ u. goes_on k line c d p q h g u.0 u.1.0 u.1.1.0 u.1.1.1) (λ u. goes_on k line d c q p g h u.0 u.1.0 u.1.1.0 u.1.1.1) t))
     (cuts h.pre g.pre h.rest g.rest (sym h.words ∙ g.words))
 
 -- a number that is not above k is no first fault of another kind
@@ -117,15 +110,21 @@ low_first k line c p h g = at_first g.pre g.rest (sym h.words ∙ g.words) g.abo
     at_first [] rest e above because = stuck [] h.first h.rest c (subst (λ z. Because [] z c) (sym e) because) h.begins
     at_first (w ∷ pre) rest e above because = let word : h.first ≡ w = cc in omega (arith, h.low, ap (digits_value 10) word)
 
-fault_same : (k : ℕ) (line : List ℕ) (n start : ℕ) (f g : Fault) → LineFault k line n start f → LineFault k line n start g → g ≡ f
-fault_same k line n start f g a b =
-    ⊎_elim
-    (λ s. ⊎_elim (λ t. t.0 ∙ sym s.0) (λ t. absurd (low_first k line t.0 t.1.0 s.1 t.1.1.1)) (kind k line n start g b))
-    (λ s. ⊎_elim
-    (λ t. absurd (low_first k line s.0 s.1.0 t.1 s.1.1.1))
-    (λ t. let e = snag_same k line t.0 s.0 t.1.0 s.1.0 t.1.1.1 s.1.1.1 in t.1.1.0 ∙ (λ i. fault_of (e.0 i) n (start + e.1 i)) ∙ sym s.1.1.0)
-    (kind k line n start g b))
-    (kind k line n start f a)
+fault_same : (k : ℕ) (line : List ℕ) (start : Place) (f g : Fault) → LineFault k line start f → LineFault k line start g → g ≡ f
+fault_same k line start EmptyText g a b = absurd a
+fault_same k line start TextTooLong g a b = absurd a
+fault_same k line start (OpenLine p) g a b = absurd a
+fault_same k line start (TooManyLines n) g a b = absurd a
+fault_same k line start f EmptyText a b = absurd b
+fault_same k line start f TextTooLong a b = absurd b
+fault_same k line start f (OpenLine q) a b = absurd b
+fault_same k line start f (TooManyLines n) a b = absurd b
+fault_same k line start (NumberNotRising p) (NumberNotRising q) a b = ap NumberNotRising (b.0 ∙ sym a.0)
+fault_same k line start (NumberNotRising p) (AtWord d q) a b = absurd (low_first k line d b.0 a.1 b.1.1)
+fault_same k line start (AtWord c p) (NumberNotRising q) a b = absurd (low_first k line c a.0 b.1 a.1.1)
+fault_same k line start (AtWord c p) (AtWord d q) a b =
+    let e = snag_same k line d c b.0 a.0 b.1.1 a.1.1 in
+    λ i. AtWord (e.0 i) ((b.1.0 ∙ ap (further start) e.1 ∙ sym a.1.0) i)
 
 -- a line that is none comes behind all lines of the text's book
 
@@ -151,7 +150,7 @@ ahead j (b ∷ bs) (d ∷ cs) rest line after r t f bad e =
 in_ahead : (text : List ℕ) (f : Fault) (h : InLine text f) (bs : List Line) (rest : List ℕ) → Rising 0 bs → text ≡ book_text bs ++ rest → (more : List Line) × ((h.before ≡ bs ++ more) × (rest ≡ book_text more ++ (h.line ++ (10 ∷ h.after))))
 in_ahead text f h bs rest r e =
     let n = h.next in
-    ahead 0 bs h.before rest h.line h.after r n.rising (free_whole 10 h.line n.whole) (fault_bad (last_from 0 h.before) h.line (length h.before + 1) (length (book_text h.before)) f h.fault) (sym e ∙ n.split)
+    ahead 0 bs h.before rest h.line h.after r n.rising (free_whole 10 h.line n.whole) (fault_bad (last_from 0 h.before) h.line (start_behind h.before) f h.fault) (sym e ∙ n.split)
 
 -- two such lines are the same
 
@@ -167,8 +166,8 @@ line_same text f g a b =
     let none = no_more b.before x.0 short in
     let books : a.before ≡ b.before = x.1.0 ∙ ap (λ z. b.before ++ z) none ∙ append-nil b.before in
     let lines = cut_same 10 b.line a.line b.after a.after (free_whole 10 b.line b.next.whole) (free_whole 10 a.line a.next.whole) (x.1.1 ∙ ap (λ z. book_text z ++ (a.line ++ (10 ∷ a.after))) none) in
-    fault_same (last_from 0 a.before) a.line (length a.before + 1) (length (book_text a.before)) f g a.fault
-    (subst (λ z. LineFault (last_from 0 z) a.line (length z + 1) (length (book_text z)) g) (sym books) (subst (λ z. LineFault (last_from 0 b.before) z (length b.before + 1) (length (book_text b.before)) g) lines.0 b.fault))
+    fault_same (last_from 0 a.before) a.line (start_behind a.before) f g a.fault
+    (subst (λ z. LineFault (last_from 0 z) a.line (start_behind z) g) (sym books) (subst (λ z. LineFault (last_from 0 b.before) z (start_behind b.before) g) lines.0 b.fault))
 
 -- line 65
 
@@ -225,12 +224,10 @@ no_line text f ls b h =
 pub no_book : (text : List ℕ) (f : Fault) → BookFault text f → (ls : List Line) → IsBook text ls → ⊥
 no_book text EmptyText h ls b = omega (arith, ap length h, (book_ended text ls b).some)
 no_book text TextTooLong h ls b = omega (arith, b.short)
-no_book text (OpenLine n k) h ls b = h.last (book_ended text ls b).ended
+no_book text (OpenLine p) h ls b = h.last (book_ended text ls b).ended
 no_book text (TooManyLines k) h ls b = omega (arith, h.more, no_rest 0 0 ls h.before h.after b.rising h.rising (omega (arith, b.few, h.full)) (sym (spelled_all text ls b) ∙ h.split))
-no_book text (NumberNotRising n k) h ls b = no_line text (NumberNotRising n k) ls b h
-no_book text (WordMissing n k) h ls b = no_line text (WordMissing n k) ls b h
-no_book text (NumberOwed n k) h ls b = no_line text (NumberOwed n k) ls b h
-no_book text (WordNotAllowed n k) h ls b = no_line text (WordNotAllowed n k) ls b h
+no_book text (NumberNotRising p) h ls b = no_line text (NumberNotRising p) ls b h
+no_book text (AtWord c p) h ls b = no_line text (AtWord c p) ls b h
 
 -- and has no other
 
@@ -238,12 +235,10 @@ no_book text (WordNotAllowed n k) h ls b = no_line text (WordNotAllowed n k) ls 
 ended_only : (text : List ℕ) → Ended text → (f : Fault) → ((g : Fault) → InLine text g → g ≡ f) → ((b : ℕ) → TooMany text b → TooManyLines b ≡ f) → (g : Fault) → BookFault text g → g ≡ f
 ended_only text d f line many EmptyText h = absurd (omega (arith, ap length h, d.some))
 ended_only text d f line many TextTooLong h = absurd (omega (arith, d.short))
-ended_only text d f line many (OpenLine n b) h = absurd (h.last d.ended)
+ended_only text d f line many (OpenLine p) h = absurd (h.last d.ended)
 ended_only text d f line many (TooManyLines b) h = many b h
-ended_only text d f line many (NumberNotRising n b) h = line (NumberNotRising n b) h
-ended_only text d f line many (WordMissing n b) h = line (WordMissing n b) h
-ended_only text d f line many (NumberOwed n b) h = line (NumberOwed n b) h
-ended_only text d f line many (WordNotAllowed n b) h = line (WordNotAllowed n b) h
+ended_only text d f line many (NumberNotRising p) h = line (NumberNotRising p) h
+ended_only text d f line many (AtWord c p) h = line (AtWord c p) h
 
 in_line_only : (text : List ℕ) (f : Fault) → InLine text f → (g : Fault) → BookFault text g → g ≡ f
 in_line_only text f h = ended_only text h.next.whole_text f (λ g a. line_same text f g h a) (λ b a. absurd (many_line text b f a h))
@@ -255,26 +250,22 @@ many_only text b h =
     ap TooManyLines (a.byte_is ∙ ap (λ z. length (book_text z)) same ∙ sym h.byte_is))
 
 -- what a fault of the whole text excludes
-whole_only : (text : List ℕ) → (Ended text → ⊥) → (f : Fault) → (text ≡ [] → EmptyText ≡ f) → (8192 < length text → TextTooLong ≡ f) → ((n b : ℕ) → Unended text n b → OpenLine n b ≡ f) → (g : Fault) → BookFault text g → g ≡ f
+whole_only : (text : List ℕ) → (Ended text → ⊥) → (f : Fault) → (text ≡ [] → EmptyText ≡ f) → (8192 < length text → TextTooLong ≡ f) → ((p : Place) → Unended text p → OpenLine p ≡ f) → (g : Fault) → BookFault text g → g ≡ f
 whole_only text d f empty long unended EmptyText h = empty h
 whole_only text d f empty long unended TextTooLong h = long h
-whole_only text d f empty long unended (OpenLine n b) h = unended n b h
+whole_only text d f empty long unended (OpenLine p) h = unended p h
 whole_only text d f empty long unended (TooManyLines b) h = absurd (d h.whole_text)
-whole_only text d f empty long unended (NumberNotRising n b) h = absurd (d h.next.whole_text)
-whole_only text d f empty long unended (WordMissing n b) h = absurd (d h.next.whole_text)
-whole_only text d f empty long unended (NumberOwed n b) h = absurd (d h.next.whole_text)
-whole_only text d f empty long unended (WordNotAllowed n b) h = absurd (d h.next.whole_text)
+whole_only text d f empty long unended (NumberNotRising p) h = absurd (d h.next.whole_text)
+whole_only text d f empty long unended (AtWord c p) h = absurd (d h.next.whole_text)
 
 only : (text : List ℕ) (f : Fault) → BookFault text f → (g : Fault) → BookFault text g → g ≡ f
-only text EmptyText h = whole_only text (λ d. omega (arith, ap length h, d.some)) EmptyText (λ _. refl) (λ l. absurd (omega (arith, ap length h))) (λ n b u. absurd (omega (arith, ap length h, u.some)))
-only text TextTooLong h = whole_only text (λ d. omega (arith, d.short)) TextTooLong (λ e. absurd (omega (arith, ap length e))) (λ _. refl) (λ n b u. absurd (omega (arith, u.short)))
-only text (OpenLine n b) h =
-    whole_only text (λ d. h.last d.ended) (OpenLine n b) (λ e. absurd (omega (arith, ap length e, h.some))) (λ l. absurd (omega (arith, h.short))) (λ m k u. (λ i. OpenLine ((u.line_is ∙ sym h.line_is) i) ((u.byte_is ∙ sym h.byte_is) i)))
+only text EmptyText h = whole_only text (λ d. omega (arith, ap length h, d.some)) EmptyText (λ _. refl) (λ l. absurd (omega (arith, ap length h))) (λ p u. absurd (omega (arith, ap length h, u.some)))
+only text TextTooLong h = whole_only text (λ d. omega (arith, d.short)) TextTooLong (λ e. absurd (omega (arith, ap length e))) (λ _. refl) (λ p u. absurd (omega (arith, u.short)))
+only text (OpenLine p) h =
+    whole_only text (λ d. h.last d.ended) (OpenLine p) (λ e. absurd (omega (arith, ap length e, h.some))) (λ l. absurd (omega (arith, h.short))) (λ q u. (λ i. OpenLine (record { line = (u.line_is ∙ sym h.line_is) i; byte = (u.byte_is ∙ sym h.byte_is) i })))
 only text (TooManyLines b) h = many_only text b h
-only text (NumberNotRising n b) h = in_line_only text (NumberNotRising n b) h
-only text (WordMissing n b) h = in_line_only text (WordMissing n b) h
-only text (NumberOwed n b) h = in_line_only text (NumberOwed n b) h
-only text (WordNotAllowed n b) h = in_line_only text (WordNotAllowed n b) h
+only text (NumberNotRising p) h = in_line_only text (NumberNotRising p) h
+only text (AtWord c p) h = in_line_only text (AtWord c p) h
 
 pub one_fault : (text : List ℕ) (f : Fault) → BookFault text f → IsOneFault text f
 one_fault text f h = record { none = no_book text f h; other = only text f h }
@@ -286,7 +277,11 @@ pub no_bytes : (xs : List ℕ) → length xs ≡ 0 → xs ≡ []
 no_bytes [] e = refl
 no_bytes (x ∷ xs) e = absurd (omega arith)
 
--- what a refusal owes
-pub refused : (text : List ℕ) (table : List Line) (r : Result ℕ Fault) (f : Fault) → IsErrAnd r (λ g. g ≡ f) → BookFault text f → ReadsBook text table r table × ((ls : List Line) → IsBook text ls → ReadsAs ls r table) × OnlyFault text r
-refused text table (Ok n) f e h = absurd e
-refused text table (Err g) f e h = let k = subst (BookFault text) (sym e) h in ((k, refl), no_book text g k, one_fault text g k)
+-- what a reading answers is the one book, or the one fault
+pub every_book : (text : List ℕ) (r : Result (ArrayVec Line) Fault) → MatchResult r (λ lines. IsBook text lines.items) (λ f. BookFault text f) → (ls : List Line) → IsBook text ls → IsOkAnd r (λ lines. lines.items ≡ ls)
+every_book text (Ok lines) h ls b = one_book text lines.items ls h b
+every_book text (Err f) h ls b = no_book text f h ls b
+
+pub only_fault : (text : List ℕ) (r : Result (ArrayVec Line) Fault) → MatchResult r (λ lines. IsBook text lines.items) (λ f. BookFault text f) → IfErr r (λ f. IsOneFault text f)
+only_fault text (Ok lines) h = tt
+only_fault text (Err f) h = one_fault text f h

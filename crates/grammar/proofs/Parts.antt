@@ -4,15 +4,15 @@ use Rattle.std.proofs.lemmas.Bool.{cond-true, cond-false, cases_Bool}
 use Rattle.monitor.specs.declared.limit.Ticks.{Ticks}
 use Rattle.stream.specs.Signals.{every_signal}
 use Rattle.grammar.specs.declared.clause.ClauseNumber.{ClauseNumber}
-use Rattle.grammar.specs.declared.snag.Cause.{Cause}
-use Rattle.grammar.specs.declared.snag.Cause.TheVariants.{WordMissing, NumberOwed, WordNotAllowed}
+use Rattle.grammar.specs.declared.fault.Cause.{Cause}
+use Rattle.grammar.specs.declared.fault.Cause.TheVariants.{WordMissing, NumberOwed, WordNotAllowed}
 use Rattle.grammar.specs.declared.token.Keyword.{Keyword}
 use Rattle.grammar.specs.Words.{unwords}
 use Rattle.grammar.specs.Numbers.{number_of, ticks_of, clause_of}
 use Rattle.grammar.specs.Tokens.{key_word, signal_of}
 use Rattle.grammar.specs.Grammar.{signal_word}
 use Rattle.grammar.specs.Reading.{Ws, Read, got, bad, and_then, gives, made, refuse, or_bad, read_number, read_ticks, read_clause, read_signal, starts_by, if_next, read_key}
-use Rattle.grammar.proofs.Same.{ticks_read, clause_read}
+use Rattle.grammar.proofs.Same.{ticks_is, clause_is, made_read}
 use Rattle.grammar.proofs.Spelled.{Digit, number_spelled, number_reads, signal_spelled, signal_reads, signal_digit}
 use Rattle.grammar.proofs.Keys.{starts_spelled, starts_self, starts_digit}
 use Rattle.grammar.proofs.Stops.{Front, Stop, Goes, then_got, stop_first, stop_both, one_got, one_stop, one_stop_number, stop_cons, stop_here, stop_none, stop_same}
@@ -220,7 +220,7 @@ ticks_leaf =
     let S : Ticks → Ws → Ws → Type 0 = λ t ws rest. ws ≡ decimal t.value ∷ rest in
     let t = map_tail (read_number 0 999999999) ticks_of (λ n ws rest. (ws ≡ decimal n ∷ rest) × ((0 ≤ n) × (n ≤ 999999999))) S n (λ n ws rest h. let up = h.1.1 in h.0 ∙ ap (λ k. decimal k ∷ rest) (omega arith)) in
     record {
-      reads = λ x any. ticks_read _ x.value any x (read_number_lem 0 999999999 x.value any (omega arith) (omega arith) x.small) refl;
+      reads = λ x any. made_read ticks_of _ x.value any x (read_number_lem 0 999999999 x.value any (omega arith) (omega arith) x.small) (ticks_is x.value x refl);
       takes = t.takes;
       stops = t.stops;
       sample = ticks_of 0;
@@ -232,7 +232,7 @@ clause_leaf =
     let S : ClauseNumber → Ws → Ws → Type 0 = λ k ws rest. ws ≡ decimal k.value ∷ rest in
     let t = map_tail (read_number 1 9999) clause_of (λ n ws rest. (ws ≡ decimal n ∷ rest) × ((1 ≤ n) × (n ≤ 9999))) S n (λ n ws rest h. let low = h.1.0 in let up = h.1.1 in h.0 ∙ ap (λ k. decimal k ∷ rest) (omega arith)) in
     record {
-      reads = λ x any. clause_read _ x.value any x (read_number_lem 1 9999 x.value any (omega arith) x.from x.upto) refl;
+      reads = λ x any. made_read clause_of _ x.value any x (read_number_lem 1 9999 x.value any (omega arith) x.from x.upto) (clause_is x.value x refl);
       takes = t.takes;
       stops = t.stops;
       sample = clause_of 1;

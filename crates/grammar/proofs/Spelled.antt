@@ -1,20 +1,20 @@
 -- Words and what they spell: numbers, keywords, signals.
-use Rattle.std.proofs.Common.{◌≡◌, ℕ, ◌+◌, ◌-◌, ◌%◌, ◌^◌, ◌<◌, ◌≤◌, Bool, true, false, cond, not, ◌&&◌, eqb, ltb, leb, List, [], ◌∷◌, length, get_or, Some, None, decimal, Option, sym, refl, ap, ◌∙◌, subst, ⊎_elim, mod-lt, mod-eq_of_lt, arith, lit<}
+use Rattle.std.proofs.Common.{◌≡◌, ℕ, ◌+◌, ◌-◌, ◌%◌, ◌^◌, ◌<◌, ◌≤◌, Bool, true, false, cond, not, ◌&&◌, eqb, ltb, leb, List, [], ◌∷◌, length, get_or, Some, None, Ok, Err, decimal, Option, Result, sym, refl, ap, ◌∙◌, subst, ⊎_elim, mod-lt, mod-eq_of_lt, arith, lit<}
 use Rattle.std.specs.Str.Parse.{digits_value}
 use Rattle.std.specs.Int.{IsInRange}
+use Rattle.std.specs.Result.{result_eq}
 use Rattle.std.specs.Str.{all_ascii_digits, bytes_eq}
 use Rattle.std.proofs.lemmas.Bool.{cond-true, cond-false, and_parts, and_from, cases_Bool, le-leb, leb-true, ltb-true, eqb-true, lt-ltb, ne_eqb, not-true, not_from_false, and_left, and_right, le-ltb, eq-eqb, lt-leb, cases_lt}
-use Rattle.std.proofs.lemmas.Slice.Eq.{bytes_eq-Decides}
+use Rattle.std.proofs.lemmas.Slice.Eq.{bytes_eq-Decides, HasBytesAt, text_from_reads}
 use Rattle.std.proofs.lemmas.Str.Parse.{IsNumeralModel, numerals_by_value, tells_all_ascii_digits, digit_at}
 use Rattle.std.proofs.lemmas.Fmt.{decimal-digits_value, digits_decimal, digits_value-decimal, decimal_nonempty, first_decimal, decimal_digit, decimal_is_IsNumeral}
 use Rattle.stream.specs.declared.letter.Letter.{Letter}
 use Rattle.stream.specs.declared.signal.Signal.{Signal}
-use Rattle.stream.specs.declared.signal.Source.{Source}
-use Rattle.stream.specs.declared.signal.Source.TheVariants as S
 use Rattle.stream.specs.Signals.{bare_signal, every_signal, negated_signal}
 use Rattle.grammar.specs.declared.token.Keyword.{Keyword}
 use Rattle.grammar.specs.declared.token.Keyword.TheVariants as K
-use Rattle.grammar.specs.declared.number.Numeral.TheVariants.{Value, WrongForm, TooHigh}
+use Rattle.grammar.specs.declared.number.Misread.{Misread}
+use Rattle.grammar.specs.declared.number.Misread.TheVariants.{WrongForm, TooHigh}
 use Rattle.grammar.specs.Numbers.{well_formed, reading_of, number_of}
 use Rattle.grammar.specs.Tokens.{key_word, first_key, keywords, keyword_of, letter_of, bare_of, marked_of, signal_of}
 use Rattle.grammar.specs.Grammar.{source_byte, signal_word}
@@ -81,31 +81,31 @@ decimal_digits n h =
 same_letter_of : (b : ℕ) → 97 ≤ b → b ≤ 120 → 97 + (b - 97) % 24 ≡ b
 same_letter_of b l h = let m : (b - 97) % 24 ≡ b - 97 = mod-eq_of_lt (omega arith) in omega arith
 
-bare_spelled : (b : ℕ) (s : Signal) → bare_of b ≡ Some s → (b ≡ source_byte s.source) × (s.negated ≡ false)
+bare_spelled : (b : ℕ) (s : Signal) → bare_of b ≡ Some s → (b ≡ source_byte s.letter) × (s.negated ≡ false)
 bare_spelled b s e =
     ⊎_elim
     (λ (t : eqb b 42 ≡ true).
     let r : Some every_signal ≡ Some s = sym (cond-true _ _ _ t) ∙ e in
     let is : every_signal ≡ s = cc in
-    subst (λ z. (b ≡ source_byte z.source) × (z.negated ≡ false)) is (eqb-true b 42 t, refl))
+    subst (λ z. (b ≡ source_byte z.letter) × (z.negated ≡ false)) is (eqb-true b 42 t, refl))
     (λ (t : eqb b 42 ≡ false).
     let rest : cond (leb 97 b && leb b 120) (Some (letter_of b)) None ≡ Some s = sym (cond-false _ _ _ t) ∙ e in
     let (both, is) = some_is (leb 97 b && leb b 120) (letter_of b) s rest in
     let (low, high) = and_parts (leb 97 b) (leb b 120) both in
     let l = leb-true 97 b low in
     let h = leb-true b 120 high in
-    subst (λ z. (b ≡ source_byte z.source) × (z.negated ≡ false)) is (sym (same_letter_of b l h), refl))
+    subst (λ z. (b ≡ source_byte z.letter) × (z.negated ≡ false)) is (sym (same_letter_of b l h), refl))
     (cases_Bool (eqb b 42))
 
 marked_is : (o : Option Signal) (s : Signal) → marked_of o ≡ Some s → (p : Signal) × ((o ≡ Some p) × (negated_signal p ≡ s))
 marked_is None s e = let z : ◌≡◌ {A = ℕ} 0 1 = cc in absurd (omega arith)
 marked_is (Some p) s e = (p, (refl, cc))
 
-marked_spelled : (b : ℕ) (s : Signal) → marked_of (bare_of b) ≡ Some s → (b ≡ source_byte s.source) × (s.negated ≡ true)
+marked_spelled : (b : ℕ) (s : Signal) → marked_of (bare_of b) ≡ Some s → (b ≡ source_byte s.letter) × (s.negated ≡ true)
 marked_spelled b s e =
     let m = marked_is (bare_of b) s e in
     let h = bare_spelled b m.0 m.1.0 in
-    subst (λ z. (b ≡ source_byte z.source) × (z.negated ≡ true)) m.1.1 (h.0, ap not h.1)
+    subst (λ z. (b ≡ source_byte z.letter) × (z.negated ≡ true)) m.1.1 (h.0, ap not h.1)
 
 -- a word that is read as a signal is what the signal is written as
 pub signal_spelled : (w : List ℕ) (s : Signal) → signal_of w ≡ Some s → w ≡ signal_word s
@@ -120,21 +120,21 @@ signal_spelled (n ∷ b ∷ []) s e =
     (cases_Bool (eqb n 33))
 signal_spelled (n ∷ b ∷ c ∷ cs) s e = let z : ◌≡◌ {A = ℕ} 0 1 = cc in absurd (omega arith)
 
-letter_reads : (l : Letter) → letter_of (97 + l.bit) ≡ bare_signal (S.Letter l)
+letter_reads : (l : Letter) → letter_of (97 + l.bit) ≡ bare_signal (Some l)
 letter_reads l =
     let low = l.low in
     let back : (97 + l.bit - 97) % 24 ≡ l.bit = mod-eq_of_lt (omega arith) ∙ omega arith in
-    λ i. bare_signal (S.Letter (same_letter (record { bit = (97 + l.bit - 97) % 24; low = mod-lt (97 + l.bit - 97) (lit< tt) }) l back i))
+    λ i. bare_signal (Some (same_letter (record { bit = (97 + l.bit - 97) % 24; low = mod-lt (97 + l.bit - 97) (lit< tt) }) l back i))
 
-bare_reads : (a : Source) → bare_of (source_byte a) ≡ Some (bare_signal a)
-bare_reads S.Every = refl
-bare_reads (S.Letter l) =
+bare_reads : (a : Option Letter) → bare_of (source_byte a) ≡ Some (bare_signal a)
+bare_reads None = refl
+bare_reads (Some l) =
     let low = l.low in
     cond-false _ _ _ (ne_eqb (97 + l.bit) 42 (λ z. omega arith)) ∙ cond-true _ _ _ (and_from _ _ (le-leb 97 (97 + l.bit) (omega arith)) (le-leb (97 + l.bit) 120 (omega arith))) ∙ ap Some (letter_reads l)
 
 pub signal_reads : (s : Signal) → signal_of (signal_word s) ≡ Some s
 signal_reads s =
-    elim s.negated as (λ b. signal_of (cond b (33 ∷ source_byte s.source ∷ []) (source_byte s.source ∷ [])) ≡ Some (record { source = s.source; negated = b })) [ true ↦ ap marked_of (bare_reads s.source) | false ↦ bare_reads s.source ]
+    elim s.negated as (λ b. signal_of (cond b (33 ∷ source_byte s.letter ∷ []) (source_byte s.letter ∷ [])) ≡ Some (record { letter = s.letter; negated = b })) [ true ↦ ap marked_of (bare_reads s.letter) | false ↦ bare_reads s.letter ]
 
 bare_digit : (b : ℕ) → 48 ≤ b → b ≤ 57 → bare_of b ≡ None
 bare_digit b l h = cond-false _ _ _ (ne_eqb b 42 (λ z. omega arith)) ∙ cond-false _ _ _ (and_left _ _ (lt-leb 97 b (omega arith)))
@@ -214,6 +214,10 @@ key_reads K.Since = refl
 key_reads K.Or = refl
 key_reads K.Allow = refl
 
+-- a word of a keyword's length and bytes is found to be it
+pub key_found : (w : List ℕ) (k : Keyword) → length w ≡ length (key_word k) → HasBytesAt w 0 (key_word k) → Some k ≡ first_key w keywords
+key_found w k long bytes = sym (ap (λ u. first_key u keywords) (text_from_reads w (key_word k) long bytes) ∙ key_is (key_word k) ∙ key_reads k)
+
 -- no keyword is a signal or a number
 
 key_signal : (k : Keyword) → signal_of (key_word k) ≡ None
@@ -236,6 +240,11 @@ key_signal K.Allow = refl
 pub no_signal : (w : List ℕ) (k : Keyword) → keyword_of w ≡ Some k → signal_of w ≡ None
 no_signal w k e = ap signal_of (key_spelled w k e) ∙ key_signal k
 
+numeral_ne : (same : Misread → Misread → Bool) → same TooHigh WrongForm ≡ false → same WrongForm WrongForm ≡ true → (b c : Bool) (v : ℕ) → not (result_eq eqb same (cond b (cond c (Ok v) (Err TooHigh)) (Err WrongForm)) (Err WrongForm)) ≡ b
+numeral_ne same other self true true v = refl
+numeral_ne same other self true false v = ap not other
+numeral_ne same other self false c v = ap not self
+
 -- a well-formed number begins with a digit
 pub formed_digit : (w : List ℕ) → well_formed w ≡ true → Digit w
 formed_digit [] e = let z : ◌≡◌ {A = ℕ} 0 1 = cc in absurd (omega arith)
@@ -244,17 +253,7 @@ formed_digit (b ∷ bs) e =
     let (digits, lead) = and_parts (all_ascii_digits (b ∷ bs)) (not (eqb b 48 && ltb 1 (length (b ∷ bs)))) rest in
     (tells_all_ascii_digits.parts b bs digits).0
 
-numeral_wrong : (b c : Bool) (v : ℕ) → cond b (cond c (Value v) TooHigh) WrongForm ≡ WrongForm → b ≡ false
-numeral_wrong true true v e = let z : ◌≡◌ {A = ℕ} 0 1 = cc in absurd (omega arith)
-numeral_wrong true false v e = let z : ◌≡◌ {A = ℕ} 0 1 = cc in absurd (omega arith)
-numeral_wrong false c v e = refl
-
-pub wrong_form : (limit : ℕ) (w : List ℕ) → reading_of limit w ≡ WrongForm → well_formed w ≡ false
-wrong_form limit w e = numeral_wrong (well_formed w) (leb (digits_value 10 w) limit) (digits_value 10 w) e
-
-numeral_right : (b c : Bool) (v : ℕ) → (cond b (cond c (Value v) TooHigh) WrongForm ≡ WrongForm → ⊥) → b ≡ true
-numeral_right true c v n = refl
-numeral_right false c v n = absurd (n refl)
-
-pub right_form : (limit : ℕ) (w : List ℕ) → (reading_of limit w ≡ WrongForm → ⊥) → well_formed w ≡ true
-right_form limit w n = numeral_right (well_formed w) (leb (digits_value 10 w) limit) (digits_value 10 w) n
+-- whether a word is well formed, where a test tells the two errors apart
+pub formed_is : (same : Misread → Misread → Bool) → same TooHigh WrongForm ≡ false → same WrongForm WrongForm ≡ true → (limit : ℕ) (w : List ℕ) (r : Result ℕ Misread) (t : Bool) → r ≡ reading_of limit w → t ≡ not (result_eq eqb same r (Err WrongForm)) → well_formed w ≡ t
+formed_is same other self limit w r t is e =
+    sym (numeral_ne same other self (well_formed w) (leb (digits_value 10 w) limit) (digits_value 10 w)) ∙ ap (λ x. not (result_eq eqb same x (Err WrongForm))) (sym is) ∙ sym e

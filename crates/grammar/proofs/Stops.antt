@@ -1,7 +1,7 @@
 -- Where reading stops: what was read goes on to a whole reading, and the word that stopped it stops every other with the same front.
 use Rattle.std.proofs.Common.{◌≡◌, ℕ, ◌≤◌, ◌⊎◌, List, [], ◌∷◌, ◌++◌, length, Some, None, decimal, Option, sym, refl, ap, ◌∙◌, subst, inl, inr, ⊎_elim, append_assoc, arith}
-use Rattle.grammar.specs.declared.snag.Cause.{Cause}
-use Rattle.grammar.specs.declared.snag.Cause.TheVariants.{WordNotAllowed, WordMissing, NumberOwed}
+use Rattle.grammar.specs.declared.fault.Cause.{Cause}
+use Rattle.grammar.specs.declared.fault.Cause.TheVariants.{WordNotAllowed, WordMissing, NumberOwed}
 use Rattle.grammar.specs.Words.{unwords}
 use Rattle.grammar.specs.Reading.{Ws, Read, got, bad, and_then, or_bad, one}
 use Rattle.grammar.proofs.Spelled.{Digit}
@@ -20,8 +20,8 @@ Owed P pre more (w ∷ r) WordMissing = ⊥
 Owed P pre more (w ∷ r) WordNotAllowed = ((any : Ws) → P (pre ++ w ∷ any) ≡ bad WordNotAllowed (length (unwords (w ∷ any)))) × ((v : List ℕ) → Digit v → (any : Ws) → P (pre ++ v ∷ any) ≡ bad WordNotAllowed (length (unwords (v ∷ any))))
 Owed P pre more (w ∷ r) NumberOwed = ((any : Ws) → P (pre ++ w ∷ any) ≡ bad NumberOwed (length (unwords (w ∷ any)))) × ((n : ℕ) × ((n ≤ 999999999) × ((us : Ws) × (more ≡ decimal n ∷ us))))
 
--- a refusal after pre, which some words `more` would complete
-pub record Stop {X : Type 0} (P : Ws → Read X) (ws : Ws) (c : Cause) (m : ℕ) : Type 0 where
+-- a refusal after pre, which some words `more` would complete, so that the reading ends as E says
+pub record StopBy {X : Type 0} (E : Ws → Ws → X → Type 0) (P : Ws → Read X) (ws : Ws) (c : Cause) (m : ℕ) : Type 0 where
   pub pre : Ws
   pub rest : Ws
   pub more : Ws
@@ -29,7 +29,15 @@ pub record Stop {X : Type 0} (P : Ws → Read X) (ws : Ws) (c : Cause) (m : ℕ)
   pub split : ws ≡ pre ++ rest
   pub place : m ≡ length (unwords rest)
   pub owed : Owed P pre more rest c
-  pub ends : (any : Ws) → P (pre ++ (more ++ any)) ≡ got value any
+  pub ends : E pre more value
+
+-- whatever follows
+abbrev pub Stop : {X : Type 0} → (Ws → Read X) → Ws → Cause → ℕ → Type 0
+Stop {X} P ws c m = StopBy {X = X} (λ pre more value. (any : Ws) → P (pre ++ (more ++ any)) ≡ got value any) P ws c m
+
+-- where the line ends
+abbrev pub Halt : {X : Type 0} → (Ws → Read X) → Ws → Cause → ℕ → Type 0
+Halt {X} P ws c m = StopBy {X = X} (λ pre more value. P (pre ++ more) ≡ got value []) P ws c m
 
 pub record Goes {X : Type 0} (P : Ws → Read X) : Type 0 where
   pub more : Ws
@@ -44,28 +52,37 @@ pub then_got : {X Y : Type 0} (s : Read X) (Q : X → Ws → Read Y) (y : Y) (en
 then_got (got x rest) Q y end e = (x, (rest, (refl, e)))
 then_got (bad d k) Q y end e = let z : ◌≡◌ {A = ℕ} 0 1 = cc in absurd (omega arith)
 
--- a stop in the second of two readings, where the first does not look ahead
-owed_then : {X Y : Type 0} (P : Ws → Read X) (Q : X → Ws → Read Y) (x : X) (front pre more rest : Ws) (c : Cause) → ((any : Ws) → P (front ++ any) ≡ got x any) → Owed (Q x) pre more rest c → Owed (λ ws. and_then (P ws) Q) (front ++ pre) more rest c
-owed_then P Q x front pre more [] WordMissing again o = tt
-owed_then P Q x front pre more [] WordNotAllowed again o = o
-owed_then P Q x front pre more [] NumberOwed again o = o
-owed_then P Q x front pre more (w ∷ r) WordMissing again o = o
-owed_then P Q x front pre more (w ∷ r) WordNotAllowed again o =
-    (λ any. ap (λ l. and_then (P l) Q) (append_assoc front pre (w ∷ any)) ∙ ap (λ s. and_then s Q) (again (pre ++ w ∷ any)) ∙ o.0 any, λ v d any. ap (λ l. and_then (P l) Q) (append_assoc front pre (v ∷ any)) ∙ ap (λ s. and_then s Q) (again (pre ++ v ∷ any)) ∙ o.1 v d any)
-owed_then P Q x front pre more (w ∷ r) NumberOwed again o =
-    (λ any. ap (λ l. and_then (P l) Q) (append_assoc front pre (w ∷ any)) ∙ ap (λ s. and_then s Q) (again (pre ++ w ∷ any)) ∙ o.0 any, o.1)
+-- after words that were read
+owed_cut : {X : Type 0} (P A : Ws → Read X) (F : Ws) → ((l : Ws) → P (F ++ l) ≡ A l) → (pre more rest : Ws) (c : Cause) → Owed A pre more rest c → Owed P (F ++ pre) more rest c
+owed_cut P A F eq pre more [] WordMissing o = tt
+owed_cut P A F eq pre more [] WordNotAllowed o = o
+owed_cut P A F eq pre more [] NumberOwed o = o
+owed_cut P A F eq pre more (v ∷ r) WordMissing o = o
+owed_cut P A F eq pre more (v ∷ r) WordNotAllowed o = (λ any. ap P (append_assoc F pre (v ∷ any)) ∙ eq (pre ++ v ∷ any) ∙ o.0 any, λ u d any. ap P (append_assoc F pre (u ∷ any)) ∙ eq (pre ++ u ∷ any) ∙ o.1 u d any)
+owed_cut P A F eq pre more (v ∷ r) NumberOwed o = (λ any. ap P (append_assoc F pre (v ∷ any)) ∙ eq (pre ++ v ∷ any) ∙ o.0 any, o.1)
 
-stop_then : {X Y : Type 0} (P : Ws → Read X) (Q : X → Ws → Read Y) (ws : Ws) (x : X) (mid : Ws) (c : Cause) (m : ℕ) → Front P ws x mid → Stop (Q x) mid c m → Stop (λ l. and_then (P l) Q) ws c m
-stop_then P Q ws x mid c m f s = record {
-  pre = f.pre ++ s.pre;
+-- a stop of A is one of P, where P goes on as A after the words F
+by_cut : {X : Type 0} (D E : Ws → Ws → X → Type 0) (P A : Ws → Read X) (F : Ws) → ((l : Ws) → P (F ++ l) ≡ A l) → ((pre more : Ws) (value : X) → D pre more value → E (F ++ pre) more value)
+    → (ws : Ws) (c : Cause) (m : ℕ) → StopBy D A ws c m → StopBy E P (F ++ ws) c m
+by_cut D E P A F eq on ws c m s = record {
+  pre = F ++ s.pre;
   rest = s.rest;
   more = s.more;
   value = s.value;
-  split = f.split ∙ ap (λ l. f.pre ++ l) s.split ∙ sym (append_assoc f.pre s.pre s.rest);
+  split = ap (λ l. F ++ l) s.split ∙ sym (append_assoc F s.pre s.rest);
   place = s.place;
-  owed = owed_then P Q x f.pre s.pre s.more s.rest c f.again s.owed;
-  ends = λ any. ap (λ l. and_then (P l) Q) (append_assoc f.pre s.pre (s.more ++ any)) ∙ ap (λ r. and_then r Q) (f.again (s.pre ++ (s.more ++ any))) ∙ s.ends any;
+  owed = owed_cut P A F eq s.pre s.more s.rest c s.owed;
+  ends = on s.pre s.more s.value s.ends;
 }
+
+stop_cut : {X : Type 0} (P A : Ws → Read X) (F : Ws) → ((l : Ws) → P (F ++ l) ≡ A l) → (ws : Ws) (c : Cause) (m : ℕ) → Stop A ws c m → Stop P (F ++ ws) c m
+stop_cut P A F eq = by_cut _ _ P A F eq (λ pre more value h any. ap P (append_assoc F pre (more ++ any)) ∙ eq (pre ++ (more ++ any)) ∙ h any)
+
+-- a stop in the second of two readings, where the first does not look ahead
+stop_then : {X Y : Type 0} (P : Ws → Read X) (Q : X → Ws → Read Y) (ws : Ws) (x : X) (mid : Ws) (c : Cause) (m : ℕ) → Front P ws x mid → Stop (Q x) mid c m → Stop (λ l. and_then (P l) Q) ws c m
+stop_then P Q ws x mid c m f s =
+    subst (λ l. Stop (λ z. and_then (P z) Q) l c m) (sym f.split)
+    (stop_cut (λ l. and_then (P l) Q) (Q x) f.pre (λ l. ap (λ r. and_then r Q) (f.again l)) mid c m s)
 
 -- a stop in the first of two readings
 owed_first : {X Y : Type 0} (P : Ws → Read X) (Q : X → Ws → Read Y) (pre more extra rest : Ws) (c : Cause) → Owed P pre more rest c → Owed (λ ws. and_then (P ws) Q) pre (more ++ extra) rest c
@@ -136,25 +153,8 @@ one_stop_number f n x small ok (w ∷ ws) c m e =
     subst (λ d. Stop (one NumberOwed f) (w ∷ ws) d m) h.1 (record { pre = []; rest = w ∷ ws; more = decimal n ∷ []; value = x; split = refl; place = sym h.2; owed = (λ any. ap (or_bad NumberOwed (w ∷ any) any) h.0, (n, (small, ([], refl)))); ends = λ any. ap (or_bad NumberOwed (decimal n ∷ any) any) ok })
 
 -- after a word that chose the way
-owed_cons : {X : Type 0} (P A : Ws → Read X) (w : List ℕ) → ((l : Ws) → P (w ∷ l) ≡ A l) → (pre more rest : Ws) (c : Cause) → Owed A pre more rest c → Owed P (w ∷ pre) more rest c
-owed_cons P A w eq pre more [] WordMissing o = tt
-owed_cons P A w eq pre more [] WordNotAllowed o = o
-owed_cons P A w eq pre more [] NumberOwed o = o
-owed_cons P A w eq pre more (v ∷ r) WordMissing o = o
-owed_cons P A w eq pre more (v ∷ r) WordNotAllowed o = (λ any. eq (pre ++ v ∷ any) ∙ o.0 any, λ u d any. eq (pre ++ u ∷ any) ∙ o.1 u d any)
-owed_cons P A w eq pre more (v ∷ r) NumberOwed o = (λ any. eq (pre ++ v ∷ any) ∙ o.0 any, o.1)
-
 pub stop_cons : {X : Type 0} (P A : Ws → Read X) (w : List ℕ) → ((l : Ws) → P (w ∷ l) ≡ A l) → (ws : Ws) (c : Cause) (m : ℕ) → Stop A ws c m → Stop P (w ∷ ws) c m
-stop_cons P A w eq ws c m s = record {
-  pre = w ∷ s.pre;
-  rest = s.rest;
-  more = s.more;
-  value = s.value;
-  split = ap (λ l. w ∷ l) s.split;
-  place = s.place;
-  owed = owed_cons P A w eq s.pre s.more s.rest c s.owed;
-  ends = λ any. eq (s.pre ++ (s.more ++ any)) ∙ s.ends any;
-}
+stop_cons P A w eq = stop_cut P A (w ∷ []) eq
 
 -- a first word that no way takes
 pub stop_here : {X : Type 0} (P : Ws → Read X) → Goes P → (w : List ℕ) (ws : Ws) (c : Cause) (m : ℕ) → P (w ∷ ws) ≡ bad c m → ((any : Ws) → P (w ∷ any) ≡ bad WordNotAllowed (length (unwords (w ∷ any)))) → ((v : List ℕ) → Digit v → (any : Ws) → P (v ∷ any) ≡ bad WordNotAllowed (length (unwords (v ∷ any)))) → Stop P (w ∷ ws) c m
@@ -171,25 +171,8 @@ stop_none P g c m none e =
     let k : m ≡ 0 = cc in
     subst (λ d. Stop P [] d m) d (record { pre = []; rest = []; more = g.more; value = g.value; split = refl; place = k; owed = tt; ends = g.ends })
 
-owed_same : {X : Type 0} (P A : Ws → Read X) → ((l : Ws) → P l ≡ A l) → (pre more rest : Ws) (c : Cause) → Owed A pre more rest c → Owed P pre more rest c
-owed_same P A eq pre more [] WordMissing o = tt
-owed_same P A eq pre more [] WordNotAllowed o = o
-owed_same P A eq pre more [] NumberOwed o = o
-owed_same P A eq pre more (v ∷ r) WordMissing o = o
-owed_same P A eq pre more (v ∷ r) WordNotAllowed o = (λ any. eq (pre ++ v ∷ any) ∙ o.0 any, λ u d any. eq (pre ++ u ∷ any) ∙ o.1 u d any)
-owed_same P A eq pre more (v ∷ r) NumberOwed o = (λ any. eq (pre ++ v ∷ any) ∙ o.0 any, o.1)
-
 pub stop_same : {X : Type 0} (P A : Ws → Read X) → ((l : Ws) → P l ≡ A l) → (ws : Ws) (c : Cause) (m : ℕ) → Stop A ws c m → Stop P ws c m
-stop_same P A eq ws c m s = record {
-  pre = s.pre;
-  rest = s.rest;
-  more = s.more;
-  value = s.value;
-  split = s.split;
-  place = s.place;
-  owed = owed_same P A eq s.pre s.more s.rest c s.owed;
-  ends = λ any. eq (s.pre ++ (s.more ++ any)) ∙ s.ends any;
-}
+stop_same P A eq = stop_cut P A [] eq
 
 -- a reading that looks at the next word and leaves it: it is the same where that word is the same, begins with a digit, or is none
 abbrev pub Like : Ws → Ws → Type 0
@@ -202,17 +185,6 @@ pub record Seen {X : Type 0} (P : Ws → Read X) (ws : Ws) (x : X) (rest : Ws) :
   pub pre : Ws
   pub split : ws ≡ pre ++ rest
   pub again : (any : Ws) → Like rest any → P (pre ++ any) ≡ got x any
-
--- a refusal of a reading that ends with the line
-pub record Halt {X : Type 0} (P : Ws → Read X) (ws : Ws) (c : Cause) (m : ℕ) : Type 0 where
-  pub pre : Ws
-  pub rest : Ws
-  pub more : Ws
-  pub value : X
-  pub split : ws ≡ pre ++ rest
-  pub place : m ≡ length (unwords rest)
-  pub owed : Owed P pre more rest c
-  pub ends : P (pre ++ more) ≡ got value []
 
 -- in the first of two, where the second may be empty
 pub halt_first : {X Y : Type 0} (P : Ws → Read X) (Q : X → Ws → Read Y) (ws : Ws) (c : Cause) (m : ℕ) → Stop P ws c m → ((x : X) → (more : Ws) × ((y : Y) × (Q x more ≡ got y []))) → Halt (λ l. and_then (P l) Q) ws c m
@@ -229,38 +201,13 @@ halt_first P Q ws c m s goes =
       ends = ap (λ r. and_then r Q) (s.ends g.0) ∙ g.1.1;
     }
 
-pub halt_then : {X Y : Type 0} (P : Ws → Read X) (Q : X → Ws → Read Y) (ws : Ws) (x : X) (mid : Ws) (c : Cause) (m : ℕ) → Front P ws x mid → Halt (Q x) mid c m → Halt (λ l. and_then (P l) Q) ws c m
-halt_then P Q ws x mid c m f s = record {
-  pre = f.pre ++ s.pre;
-  rest = s.rest;
-  more = s.more;
-  value = s.value;
-  split = f.split ∙ ap (λ l. f.pre ++ l) s.split ∙ sym (append_assoc f.pre s.pre s.rest);
-  place = s.place;
-  owed = owed_then P Q x f.pre s.pre s.more s.rest c f.again s.owed;
-  ends = ap (λ l. and_then (P l) Q) (append_assoc f.pre s.pre s.more) ∙ ap (λ r. and_then r Q) (f.again (s.pre ++ s.more)) ∙ s.ends;
-}
-
--- after words that were read
-owed_cut : {X : Type 0} (P A : Ws → Read X) (F : Ws) → ((l : Ws) → P (F ++ l) ≡ A l) → (pre more rest : Ws) (c : Cause) → Owed A pre more rest c → Owed P (F ++ pre) more rest c
-owed_cut P A F eq pre more [] WordMissing o = tt
-owed_cut P A F eq pre more [] WordNotAllowed o = o
-owed_cut P A F eq pre more [] NumberOwed o = o
-owed_cut P A F eq pre more (v ∷ r) WordMissing o = o
-owed_cut P A F eq pre more (v ∷ r) WordNotAllowed o = (λ any. ap P (append_assoc F pre (v ∷ any)) ∙ eq (pre ++ v ∷ any) ∙ o.0 any, λ u d any. ap P (append_assoc F pre (u ∷ any)) ∙ eq (pre ++ u ∷ any) ∙ o.1 u d any)
-owed_cut P A F eq pre more (v ∷ r) NumberOwed o = (λ any. ap P (append_assoc F pre (v ∷ any)) ∙ eq (pre ++ v ∷ any) ∙ o.0 any, o.1)
-
 halt_cut : {X : Type 0} (P A : Ws → Read X) (F : Ws) → ((l : Ws) → P (F ++ l) ≡ A l) → (ws : Ws) (c : Cause) (m : ℕ) → Halt A ws c m → Halt P (F ++ ws) c m
-halt_cut P A F eq ws c m s = record {
-  pre = F ++ s.pre;
-  rest = s.rest;
-  more = s.more;
-  value = s.value;
-  split = ap (λ l. F ++ l) s.split ∙ sym (append_assoc F s.pre s.rest);
-  place = s.place;
-  owed = owed_cut P A F eq s.pre s.more s.rest c s.owed;
-  ends = ap P (append_assoc F s.pre s.more) ∙ eq (s.pre ++ s.more) ∙ s.ends;
-}
+halt_cut P A F eq = by_cut _ _ P A F eq (λ pre more value h. ap P (append_assoc F pre more) ∙ eq (pre ++ more) ∙ h)
+
+pub halt_then : {X Y : Type 0} (P : Ws → Read X) (Q : X → Ws → Read Y) (ws : Ws) (x : X) (mid : Ws) (c : Cause) (m : ℕ) → Front P ws x mid → Halt (Q x) mid c m → Halt (λ l. and_then (P l) Q) ws c m
+halt_then P Q ws x mid c m f s =
+    subst (λ l. Halt (λ z. and_then (P z) Q) l c m) (sym f.split)
+    (halt_cut (λ l. and_then (P l) Q) (Q x) f.pre (λ l. ap (λ r. and_then r Q) (f.again l)) mid c m s)
 
 -- the same reading on all words that are like these
 
@@ -305,7 +252,7 @@ near_same P A ws c m eq h =
 
 -- after a word that chose the way
 pub near_cons : {X : Type 0} (P A : Ws → Read X) (w : List ℕ) → ((l : Ws) → P (w ∷ l) ≡ A l) → (ws : Ws) (c : Cause) (m : ℕ) → Halt A ws c m → Near P (w ∷ ws) c m
-unfolding halt_cut
+unfolding halt_cut by_cut
 near_cons P A w eq ws c m s = record { halt = halt_cut P A (w ∷ []) eq ws c m s; like = inl refl }
 
 -- after a reading that looked at the next word

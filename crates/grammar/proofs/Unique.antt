@@ -1,19 +1,19 @@
 -- A text has one reading: what is spelled is cut into its words and lines again.
 use Rattle.std.proofs.Common.{◌≡◌, ℕ, ◌<◌, ◌≤◌, Bool, true, false, cond, ◌&&◌, leb, List, [], ◌∷◌, ◌++◌, length, Some, None, codes, decimal, Option, sym, refl, ap, ◌∙◌, append_assoc, arith, length-append}
+use Rattle.std.specs.List.{onto_first}
 use Rattle.std.specs.Str.Parse.{AllDigits}
 use Rattle.std.proofs.lemmas.Bool.{cond-true, cond-false, eq-eqb, ne_eqb, and_parts, leb-true}
 use Rattle.std.proofs.lemmas.Str.Parse.{digit_from_value}
 use Rattle.std.proofs.lemmas.Fmt.{decimal_is_IsNumeral}
 use Rattle.std.proofs.lemmas.List.{append_cancel_left}
 use Rattle.stream.specs.declared.signal.Signal.{Signal}
-use Rattle.stream.specs.declared.signal.Source.{Source}
-use Rattle.stream.specs.declared.signal.Source.TheVariants.{Every, Letter}
+use Rattle.stream.specs.declared.letter.Letter.{Letter}
 use Rattle.monitor.specs.declared.limit.Ticks.{Ticks}
 use Rattle.monitor.specs.declared.pattern.Pattern.{Pattern}
 use Rattle.monitor.specs.declared.pattern.Pattern.TheVariants.{Never, NeverFrom, HoldLeast, HoldUnder, Repeat, Answer, Keep}
 use Rattle.grammar.specs.declared.tree.Term.{Term}
 use Rattle.grammar.specs.declared.tree.Line.{Line}
-use Rattle.grammar.specs.Words.{up_to, words_of, unwords, onto}
+use Rattle.grammar.specs.Words.{up_to, words_of, unwords}
 use Rattle.grammar.specs.Reading.{read_line, got}
 use Rattle.grammar.specs.Grammar.{source_byte, signal_word, pattern_words, after_words, term_words, second_words, allow_words, line_words, spell, Allowed}
 use Rattle.grammar.specs.Books.{book_text, Rising}
@@ -43,9 +43,9 @@ free_digits c h (b ∷ bs) d = ((λ (e : b ≡ c). let (l, u) = digit_from_value
 free_decimal : (c n : ℕ) → c < 48 → n ≤ 999999999 → Free c (decimal n)
 free_decimal c n h small = free_digits c h (decimal n) (decimal_is_IsNumeral n (omega arith)).0.1
 
-free_source : (c : ℕ) → c < 33 → (a : Source) → source_byte a ≡ c → ⊥
-free_source c h Every e = omega arith
-free_source c h (Letter l) e = omega arith
+free_source : (c : ℕ) → c < 33 → (a : Option Letter) → source_byte a ≡ c → ⊥
+free_source c h None e = omega arith
+free_source c h (Some l) e = omega arith
 
 -- letters only: a test by computation
 abbrev lower : List ℕ → Bool
@@ -58,7 +58,7 @@ free_word c h (b ∷ bs) t = let (l, r) = and_parts (leb 97 b) (lower bs) t in (
 
 module _ (c : ℕ) (h : c < 33) where
   fs : (s : Signal) → Free c (signal_word s)
-  fs s = elim s.negated as (λ b. Free c (cond b (33 ∷ source_byte s.source ∷ []) (source_byte s.source ∷ []))) [ true ↦ ((λ (e : 33 ≡ c). omega arith), (free_source c h s.source, tt)) | false ↦ (free_source c h s.source, tt) ]
+  fs s = elim s.negated as (λ b. Free c (cond b (33 ∷ source_byte s.letter ∷ []) (source_byte s.letter ∷ []))) [ true ↦ ((λ (e : 33 ≡ c). omega arith), (free_source c h s.letter, tt)) | false ↦ (free_source c h s.letter, tt) ]
 
   ft : (t : Ticks) → Free c (decimal t.value)
   ft t = free_decimal c t.value (omega arith) t.small
@@ -96,11 +96,11 @@ module _ (c : ℕ) (h : c < 33) where
 
 words_last : (w : List ℕ) → Free 32 w → words_of w ≡ w ∷ []
 words_last [] f = refl
-words_last (b ∷ bs) f = cond-false _ _ _ (ne_eqb b 32 f.0) ∙ ap (onto b) (words_last bs f.1)
+words_last (b ∷ bs) f = cond-false _ _ _ (ne_eqb b 32 f.0) ∙ ap (onto_first b) (words_last bs f.1)
 
 words_more : (w rest : List ℕ) → Free 32 w → words_of (w ++ (32 ∷ rest)) ≡ w ∷ words_of rest
 words_more [] rest f = refl
-words_more (b ∷ bs) rest f = cond-false _ _ _ (ne_eqb b 32 f.0) ∙ ap (onto b) (words_more bs rest f.1)
+words_more (b ∷ bs) rest f = cond-false _ _ _ (ne_eqb b 32 f.0) ∙ ap (onto_first b) (words_more bs rest f.1)
 
 words_unwords : (w : List ℕ) (ws : List (List ℕ)) → AllFree 32 (w ∷ ws) → words_of (unwords (w ∷ ws)) ≡ w ∷ ws
 words_unwords w [] f = words_last w f.0

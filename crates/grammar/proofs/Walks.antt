@@ -1,93 +1,71 @@
 -- What a turn of `line_of` keeps.
-use Rattle.std.proofs.Common.{◌≡◌, ℕ, suc, ◌+◌, ◌-◌, ◌<◌, ◌≤◌, true, false, cond, eqb, ◌⊎◌, List, [], ◌∷◌, ◌++◌, length, get_or, take, drop, sym, ap, ◌∙◌, subst, inr, arith, length-drop, take-add}
-use Rattle.std.proofs.lemmas.List.{take_more, take_all, get_or-drop, length-take-le}
-use Rattle.std.proofs.lemmas.Bool.{cond-true, cond-false, eq-eqb, ne_eqb}
-use Rattle.grammar.specs.Words.{line_ends}
+use Rattle.std.proofs.Common.{◌≡◌, ℕ, ◌+◌, ◌-◌, ◌<◌, ◌≤◌, true, false, cond, eqb, ◌⊎◌, List, [], ◌∷◌, ◌++◌, length, get_or, take, drop, sym, refl, ap, ◌∙◌, inl, inr, ⊎_elim, append_assoc, arith, length-append}
+use Rattle.std.proofs.Math.Seq.{take-append_seam, drop-append_seam}
+use Rattle.std.proofs.lemmas.List.{get_or_push, get_or-append-add, get_or_append_left, get_or_at}
+use Rattle.std.proofs.lemmas.List.Sums.{sum_by-append}
+use Rattle.std.proofs.lemmas.Bool.{cond-true, cond-false, cases_Bool, cases_lt, eqb-false}
+use Rattle.std.proofs.lemmas.Bool.Decides.{nat_tests}
+use Rattle.grammar.specs.Words.{up_to, line_ends}
 use Rattle.grammar.specs.Seats.{LineAt}
+use Rattle.grammar.proofs.Cuts.{up_to_idem}
 
 ends_append : (xs ys : List ℕ) → line_ends (xs ++ ys) ≡ line_ends xs + line_ends ys
-ends_append [] ys = omega arith
-ends_append (x ∷ xs) ys =
-    let h = ends_append xs ys in
-    elim (eqb x 10) as (λ b. cond b (suc (line_ends (xs ++ ys))) (line_ends (xs ++ ys)) ≡ cond b (suc (line_ends xs)) (line_ends xs) + line_ends ys) [ true ↦ omega arith | false ↦ h ]
-
--- the part of the text from a place up to another
-abbrev part : List ℕ → ℕ → ℕ → List ℕ
-part text start i = take (i - start) (drop start text)
-
-part_more : (text : List ℕ) (start i : ℕ) → start ≤ i → i < length text → part text start (i + 1) ≡ part text start i ++ get_or text i 0 ∷ []
-part_more text start i low inside =
-    let d = length-drop start text in
-    let k : i + 1 - start ≡ i - start + 1 = omega arith in
-    let j : start + (i - start) ≡ i = omega arith in
-    ap (λ n. take n (drop start text)) k ∙ take_more (drop start text) (i - start) 0 (omega arith) ∙ ap (λ b. part text start i ++ b ∷ []) (get_or-drop start text (i - start) 0 ∙ ap (λ n. get_or text n 0) j)
-
-take_part : (text : List ℕ) (start i : ℕ) → start ≤ i → take i text ≡ take start text ++ part text start i
-take_part text start i low = let e : i ≡ start + (i - start) = omega arith in ap (λ n. take n text) e ∙ take-add start (i - start) text
-
-one_end : (b : ℕ) → b ≡ 10 → line_ends (b ∷ []) ≡ 1
-one_end b e = cond-true _ _ _ (eq-eqb b 10 e)
+ends_append xs ys = sum_by-append (λ b. cond (eqb b 10) 1 0) xs ys
 
 no_end : (b : ℕ) → (b ≡ 10 → ⊥) → line_ends (b ∷ []) ≡ 0
-no_end b e = cond-false _ _ _ (ne_eqb b 10 e)
+no_end b e = grind (arith, nat_tests)
 
--- a line begins at `start`, of which no end was met up to i, and it is `left` lines more to the seat, this one too
-pub record Walk (text : List ℕ) (seat left start i : ℕ) : Type 0 where
-  pub from : 1 ≤ left
-  pub low : start ≤ i
-  pub before : line_ends (take start text) + left ≡ seat
-  pub none : line_ends (part text start i) ≡ 0
-  pub begins : (start ≡ 0) ⊎ (get_or text (start - 1) 0 ≡ 10)
+-- where the cut is all, no line ends
+no_ends : (xs : List ℕ) → up_to 10 xs ≡ xs → line_ends xs ≡ 0
+no_ends [] e = refl
+no_ends (x ∷ xs) e =
+    ⊎_elim
+    (λ (t : eqb x 10 ≡ true). let s : ◌≡◌ {A = List ℕ} [] (x ∷ xs) = sym (cond-true _ _ _ t) ∙ e in let z : ◌≡◌ {A = ℕ} 0 1 = cc in absurd (omega arith))
+    (λ (t : eqb x 10 ≡ false).
+    let s : ◌≡◌ {A = List ℕ} (x ∷ up_to 10 xs) (x ∷ xs) = sym (cond-false _ _ _ t) ∙ e in
+    let r : up_to 10 xs ≡ xs = cc in
+    omega (arith, ends_append (x ∷ []) xs, no_end x (eqb-false x 10 t), no_ends xs r))
+    (cases_Bool (eqb x 10))
 
-module _ (text : List ℕ) (seat left start i : ℕ) (w : Walk text seat left start i) where
-  pub walk_more : (k s : ℕ) → k ≡ left → s ≡ start → i < length text → (get_or text i 0 ≡ 10 → ⊥) → Walk text seat k s (i + 1)
-  walk_more k s kl ss inside other =
-      let l = w.low in
-      let e = ap line_ends (part_more text start i l inside) ∙ ends_append (part text start i) (get_or text i 0 ∷ []) in
-      let z = no_end (get_or text i 0) other in
-      let n = w.none in
-      subst (λ x. Walk text seat x s (i + 1)) (sym kl) (subst (λ x. Walk text seat left x (i + 1)) (sym ss) (record { from = w.from; low = omega arith; before = w.before; none = omega arith; begins = w.begins }))
+-- what is left of a text begins with the line of a seat, if that is ended
+pub record Walk (text rest : List ℕ) (seat : ℕ) : Type 0 where
+  pub front : List ℕ
+  pub split : text ≡ front ++ rest
+  pub before : line_ends front + 1 ≡ seat
+  pub begins : (length front ≡ 0) ⊎ (get_or front (length front - 1) 0 ≡ 10)
 
-  pub walk_next : (k s : ℕ) → k ≡ left - 1 → s ≡ i + 1 → i < length text → get_or text i 0 ≡ 10 → 2 ≤ left → Walk text seat k s (i + 1)
-  walk_next k s kl ss inside end two =
-      let l = w.low in
-      let e = ap line_ends (part_more text start i l inside) ∙ ends_append (part text start i) (get_or text i 0 ∷ []) in
-      let t = ap line_ends (take_part text start (i + 1) (omega arith)) ∙ ends_append (take start text) (part text start (i + 1)) in
-      let z = one_end (get_or text i 0) end in
-      let n = w.none in
+pub walk_end : (text rest : List ℕ) (k seat : ℕ) → Walk text rest k → k ≤ seat → up_to 10 rest ≡ rest → line_ends text < seat
+walk_end text rest k seat w h whole = let b = w.before in omega (arith, ap line_ends w.split ∙ ends_append w.front rest, no_ends rest whole)
+
+module _ (text rest : List ℕ) (seat : ℕ) (w : Walk text rest seat) (line after : List ℕ) (cut : line ≡ up_to 10 rest) (rest_is : rest ≡ line ++ (10 ∷ after)) where
+  none : line_ends line ≡ 0
+  none = no_ends line (ap (up_to 10) cut ∙ up_to_idem 10 rest ∙ sym cut)
+
+  whole : text ≡ w.front ++ (line ++ (10 ∷ after))
+  whole = w.split ∙ ap (λ r. w.front ++ r) rest_is
+
+  pub walk_next : Walk text after (seat + 1)
+  walk_next =
       let b = w.before in
-      let same : i + 1 - (i + 1) ≡ 0 = omega arith in
-      let back : i + 1 - 1 ≡ i = omega arith in
-      subst (λ x. Walk text seat x s (i + 1)) (sym kl) (subst (λ x. Walk text seat (left - 1) x (i + 1)) (sym ss) (record {
-        from = omega arith;
-        low = omega arith;
-        before = omega arith;
-        none = ap (λ n. line_ends (take n (drop (i + 1) text))) same;
-        begins = inr (ap (λ n. get_or text n 0) back ∙ end);
-      }))
-
-  pub walk_line : i < length text → get_or text i 0 ≡ 10 → left ≡ 1 → LineAt text seat (part text start i)
-  walk_line inside end last =
-      let l = w.low in
-      let d = length-drop start text in
-      let long : length (part text start i) ≡ i - start = length-take-le (i - start) (drop start text) (omega arith) in
-      let b = w.before in
-      let at : start + length (part text start i) ≡ i = omega arith in
+      let n = none in
+      let long = length-append (w.front ++ line) (10 ∷ []) in
       record {
-        start = start;
-        inside = omega arith;
-        part = ap (λ n. take n (drop start text)) (sym long);
-        begins = w.begins;
-        before = omega arith;
-        none = w.none;
-        ended = ap (λ k. get_or text k 0) at ∙ end;
+        front = (w.front ++ line) ++ (10 ∷ []);
+        split = whole ∙ sym (append_assoc w.front line (10 ∷ after)) ∙ sym (append_assoc (w.front ++ line) (10 ∷ []) after);
+        before = (let e : line_ends (10 ∷ []) ≡ 1 = refl in omega (arith, ends_append (w.front ++ line) (10 ∷ []), ends_append w.front line));
+        begins = inr (get_or_push (w.front ++ line) 10 0 _ (omega arith));
       }
 
-  pub walk_end : length text ≤ i → line_ends text < seat
-  walk_end all =
-      let l = w.low in
-      let t = ap line_ends (sym (take_all i text all) ∙ take_part text start i l) ∙ ends_append (take start text) (part text start i) in
-      let n = w.none in
-      let b = w.before in
-      let f = w.from in
-      omega arith
+  pub walk_line : LineAt text seat line
+  walk_line =
+      let long = ap length whole ∙ length-append w.front (line ++ (10 ∷ after)) in
+      let part = length-append line (10 ∷ after) in
+      record {
+        start = length w.front;
+        inside = omega arith;
+        part = sym (ap (λ t. take (length line) (drop (length w.front) t)) whole ∙ ap (take (length line)) (drop-append_seam w.front (line ++ (10 ∷ after))) ∙ take-append_seam line (10 ∷ after));
+        begins = ⊎_elim (λ z. inl z) (λ e. ⊎_elim (λ (h : 0 < length w.front). inr (ap (λ t. get_or t (length w.front - 1) 0) whole ∙ get_or_append_left w.front (line ++ (10 ∷ after)) 0 (length w.front - 1) (omega arith) ∙ e)) (λ (h : length w.front ≤ 0). inl (omega arith)) (cases_lt 0 (length w.front))) w.begins;
+        before = ap (λ t. line_ends t + 1) (ap (take (length w.front)) whole ∙ take-append_seam w.front (line ++ (10 ∷ after))) ∙ w.before;
+        none = none;
+        ended = ap (λ t. get_or t (length w.front + length line) 0) whole ∙ get_or-append-add w.front (line ++ (10 ∷ after)) (length line) 0 ∙ get_or_at line 10 after 0 (length line) refl;
+      }

@@ -1,9 +1,9 @@
 -- What a book's text is, and the fault of a text that is none.
-use Rattle.std.specs.Prelude.{◌≡◌, ℕ, ◌+◌, ◌-◌, ◌<◌, ◌≤◌, List, [], ◌∷◌, ◌++◌, length, take, drop, Ok, Err, Result, slice_index_or}
+use Rattle.std.specs.Prelude.{◌≡◌, ℕ, ◌+◌, ◌-◌, ◌<◌, ◌≤◌, List, [], ◌∷◌, ◌++◌, length, slice_index_or}
 use Rattle.grammar.specs.declared.tree.Line.{Line}
-use Rattle.grammar.specs.declared.snag.Cause.TheVariants as C
+use Rattle.grammar.specs.declared.fault.Place.{Place}
 use Rattle.grammar.specs.declared.fault.Fault.{Fault}
-use Rattle.grammar.specs.declared.fault.Fault.TheVariants.{EmptyText, TextTooLong, OpenLine, TooManyLines, NumberNotRising, WordMissing, NumberOwed, WordNotAllowed}
+use Rattle.grammar.specs.declared.fault.Fault.TheVariants.{EmptyText, TextTooLong, OpenLine, TooManyLines, NumberNotRising, AtWord}
 use Rattle.grammar.specs.Words.{up_to, line_ends}
 use Rattle.grammar.specs.Grammar.{Allowed, spell, NotAbove, FirstFault}
 
@@ -56,24 +56,29 @@ pub record TooMany (text : List ℕ) (byte : ℕ) : Type 0 where
   pub byte_is : byte ≡ length (book_text before)
 
 -- the last byte of a text that is neither empty nor too long is another than 0x0A
-pub record Unended (text : List ℕ) (line byte : ℕ) : Type 0 where
+pub record Unended (text : List ℕ) (place : Place) : Type 0 where
   pub some : 0 < length text
   pub short : length text ≤ 8192
   pub last : slice_index_or text (length text - 1) 0 ≡ 10 → ⊥
-  pub line_is : line ≡ line_ends text + 1
-  pub byte_is : byte ≡ length text
+  pub line_is : place.line ≡ line_ends text + 1
+  pub byte_is : place.byte ≡ length text
 
--- the first fault of one line, line n of the text, which begins at byte `start` and follows a line with number k
-abbrev pub LineFault : ℕ → List ℕ → ℕ → ℕ → Fault → Type 0
-LineFault k line n start EmptyText = ⊥
-LineFault k line n start TextTooLong = ⊥
-LineFault k line n start (OpenLine m b) = ⊥
-LineFault k line n start (TooManyLines b) = ⊥
-LineFault k line n start (NumberNotRising m b) = (m ≡ n) × ((b ≡ start) × NotAbove k line)
-LineFault k line n start (WordMissing m b) = (m ≡ n) × ((p : ℕ) × ((b ≡ start + p) × FirstFault k line C.WordMissing p))
-LineFault k line n start (NumberOwed m b) = (m ≡ n) × ((p : ℕ) × ((b ≡ start + p) × FirstFault k line C.NumberOwed p))
-LineFault k line n start (WordNotAllowed m b) =
-    (m ≡ n) × ((p : ℕ) × ((b ≡ start + p) × FirstFault k line C.WordNotAllowed p))
+-- where the line behind these lines begins
+abbrev pub start_behind : List Line → Place
+start_behind ls = record { line = length ls + 1; byte = length (book_text ls) }
+
+-- so many bytes further in a line
+abbrev pub further : Place → ℕ → Place
+further start n = record { line = start.line; byte = start.byte + n }
+
+-- the first fault of one line, which begins at `start` and follows a line with number k
+abbrev pub LineFault : ℕ → List ℕ → Place → Fault → Type 0
+LineFault k line start EmptyText = ⊥
+LineFault k line start TextTooLong = ⊥
+LineFault k line start (OpenLine p) = ⊥
+LineFault k line start (TooManyLines b) = ⊥
+LineFault k line start (NumberNotRising p) = (p ≡ start) × NotAbove k line
+LineFault k line start (AtWord c p) = (n : ℕ) × ((p ≡ further start n) × FirstFault k line c n)
 
 -- the first line that is none, and its fault
 pub record InLine (text : List ℕ) (f : Fault) : Type 0 where
@@ -81,35 +86,18 @@ pub record InLine (text : List ℕ) (f : Fault) : Type 0 where
   pub line : List ℕ
   pub after : List ℕ
   pub next : Next text before line after
-  pub fault : LineFault (last_from 0 before) line (length before + 1) (length (book_text before)) f
+  pub fault : LineFault (last_from 0 before) line (start_behind before) f
 
 -- the fault of a text
 abbrev pub BookFault : List ℕ → Fault → Type 0
 BookFault text EmptyText = text ≡ []
 BookFault text TextTooLong = 8192 < length text
-BookFault text (OpenLine n b) = Unended text n b
+BookFault text (OpenLine p) = Unended text p
 BookFault text (TooManyLines b) = TooMany text b
-BookFault text (NumberNotRising n b) = InLine text (NumberNotRising n b)
-BookFault text (WordMissing n b) = InLine text (WordMissing n b)
-BookFault text (NumberOwed n b) = InLine text (NumberOwed n b)
-BookFault text (WordNotAllowed n b) = InLine text (WordNotAllowed n b)
+BookFault text (NumberNotRising p) = InLine text (NumberNotRising p)
+BookFault text (AtWord c p) = InLine text (AtWord c p)
 
 -- a text with a fault is no book, and has no other fault
 pub record IsOneFault (text : List ℕ) (f : Fault) : Type 0 where
   pub none : (ls : List Line) → IsBook text ls → ⊥
   pub other : (g : Fault) → BookFault text g → g ≡ f
-
--- what reading answers, and the table before and after: the lines of the book stand first in it, or it is as before
-abbrev pub ReadsBook : List ℕ → List Line → Result ℕ Fault → List Line → Type 0
-ReadsBook text before (Ok n) after = IsBook text (take n after) × ((n ≤ 64) × (drop n after ≡ drop n before))
-ReadsBook text before (Err f) after = BookFault text f × (after ≡ before)
-
--- the text of these lines is answered by them and no others
-abbrev pub ReadsAs : List Line → Result ℕ Fault → List Line → Type 0
-ReadsAs ls (Ok n) after = take n after ≡ ls
-ReadsAs ls (Err f) after = ⊥
-
--- where a fault is answered, it is the one fault
-abbrev pub OnlyFault : List ℕ → Result ℕ Fault → Type 0
-OnlyFault text (Ok n) = Unit {0}
-OnlyFault text (Err f) = IsOneFault text f

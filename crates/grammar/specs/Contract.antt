@@ -1,16 +1,15 @@
 -- What a reading call promises.
-use Rattle.std.specs.Prelude.{◌≡◌, ℕ, ◌<◌, ◌≤◌, Bool, cond, List, length, take, drop, Ok, Err, Result}
+use Rattle.std.specs.Prelude.{◌≡◌, ℕ, ◌<◌, ◌≤◌, Bool, cond, List, length, Ok, Err, Result}
 use Rattle.grammar.specs.declared.fault.Fault.{Fault}
-use Rattle.grammar.specs.declared.fault.Fault.TheVariants as F
-use Rattle.grammar.specs.declared.snag.Cause.{Cause}
-use Rattle.grammar.specs.declared.snag.Cause.TheVariants as C
+use Rattle.grammar.specs.declared.fault.Fault.TheVariants.{AtWord}
+use Rattle.grammar.specs.declared.fault.Place.{Place}
 use Rattle.grammar.specs.declared.snag.Snag.{Snag}
 use Rattle.grammar.specs.declared.tree.Line.{Line}
 use Rattle.grammar.specs.declared.token.Keyword.{Keyword}
 use Rattle.grammar.specs.declared.reader.Reader.{Reader}
 use Rattle.grammar.specs.Words.{left}
 use Rattle.grammar.specs.Grammar.{Allowed, spell}
-use Rattle.grammar.specs.Books.{IsBook, LineFault, BookFault}
+use Rattle.grammar.specs.Books.{further, LineFault}
 use Rattle.grammar.specs.Reading.{Ws, Read, outcome, rest_of, starts_by}
 
 -- the words from the reader's place on
@@ -38,18 +37,11 @@ pub record Takes (before after : Reader) (r : Bool) (owed : Keyword) : Type 0 wh
   pub rest : left_of after ≡ cond r (rest_of (left_of before)) (left_of before)
   pub kept : after.line ≡ before.line
 
--- the fault of a cause, at a line and a byte
-abbrev pub fault_of : Cause → ℕ → ℕ → Fault
-fault_of C.WordMissing n b = F.WordMissing n b
-fault_of C.NumberOwed n b = F.NumberOwed n b
-fault_of C.WordNotAllowed n b = F.WordNotAllowed n b
+-- the fault of a snag in a line that begins at `start`
+abbrev pub fault_of : Place → Snag → Fault
+fault_of start s = AtWord s.cause (further start s.place)
 
 -- a line is read as what it spells, if its number is above k, or has its first fault
-abbrev pub ReadsLine : ℕ → List ℕ → ℕ → ℕ → Result Line Fault → Type 0
-ReadsLine k line n start (Ok l) = (line ≡ spell l) × (Allowed l.allow × (k < l.number.value))
-ReadsLine k line n start (Err f) = LineFault k line n start f
-
--- a table is filled with the lines of a book, or the text has a fault
-abbrev pub Filled : List ℕ → List Line → Result ℕ Fault → List Line → Type 0
-Filled text before (Ok n) after = IsBook text (take n after) × ((n ≤ 64) × (drop n after ≡ drop n before))
-Filled text before (Err f) after = BookFault text f
+abbrev pub ReadsLine : ℕ → List ℕ → Place → Result Line Fault → Type 0
+ReadsLine k line start (Ok l) = (line ≡ spell l) × (Allowed l.allow × (k < l.number.value))
+ReadsLine k line start (Err f) = LineFault k line start f

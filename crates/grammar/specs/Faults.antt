@@ -3,7 +3,8 @@ use Rattle.std.specs.Prelude.{ℕ}
 use Rattle.stream.specs.declared.refusal.Refusal.{Refusal}
 use Rattle.stream.specs.declared.refusal.Refusal.TheVariants as R
 use Rattle.grammar.specs.declared.fault.Fault.{Fault}
-use Rattle.grammar.specs.declared.fault.Fault.TheVariants.{EmptyText, TextTooLong, OpenLine, TooManyLines, NumberNotRising, WordMissing, NumberOwed, WordNotAllowed}
+use Rattle.grammar.specs.declared.fault.Fault.TheVariants.{EmptyText, TextTooLong, OpenLine, TooManyLines, NumberNotRising, AtWord}
+use Rattle.grammar.specs.declared.fault.Cause.TheVariants as C
 use Rattle.grammar.specs.declared.fault.Layer.{Layer}
 use Rattle.grammar.specs.declared.fault.Layer.TheVariants.{Text, Line, Book}
 
@@ -11,42 +12,36 @@ use Rattle.grammar.specs.declared.fault.Layer.TheVariants.{Text, Line, Book}
 abbrev pub refusal_of : Fault → Refusal
 refusal_of EmptyText = R.EmptyText
 refusal_of TextTooLong = R.TextTooLong
-refusal_of (OpenLine n b) = R.OpenLine
+refusal_of (OpenLine p) = R.OpenLine
 refusal_of (TooManyLines b) = R.TooManyLines
-refusal_of (NumberNotRising n b) = R.NumberNotRising
-refusal_of (WordMissing n b) = R.WordMissing
-refusal_of (NumberOwed n b) = R.NumberOwed
-refusal_of (WordNotAllowed n b) = R.WordNotAllowed
+refusal_of (NumberNotRising p) = R.NumberNotRising
+refusal_of (AtWord C.WordMissing p) = R.WordMissing
+refusal_of (AtWord C.NumberOwed p) = R.NumberOwed
+refusal_of (AtWord C.WordNotAllowed p) = R.WordNotAllowed
 
 -- a fault is in the text as a whole, in a line, or in the book as a whole
 abbrev pub layer_of : Fault → Layer
 layer_of EmptyText = Text
 layer_of TextTooLong = Text
-layer_of (OpenLine n b) = Text
+layer_of (OpenLine p) = Text
 layer_of (TooManyLines b) = Book
-layer_of (NumberNotRising n b) = Book
-layer_of (WordMissing n b) = Line
-layer_of (NumberOwed n b) = Line
-layer_of (WordNotAllowed n b) = Line
+layer_of (NumberNotRising p) = Book
+layer_of (AtWord c p) = Line
 
 -- a line too many is always the sixty-fifth
 abbrev pub line_number_of : Fault → ℕ
 line_number_of EmptyText = 1
 line_number_of TextTooLong = 1
-line_number_of (OpenLine n b) = n
+line_number_of (OpenLine p) = p.line
 line_number_of (TooManyLines b) = 65
-line_number_of (NumberNotRising n b) = n
-line_number_of (WordMissing n b) = n
-line_number_of (NumberOwed n b) = n
-line_number_of (WordNotAllowed n b) = n
+line_number_of (NumberNotRising p) = p.line
+line_number_of (AtWord c p) = p.line
 
 -- an empty text is refused at its beginning, and one that is too long behind its byte 8,191
 abbrev pub byte_of : Fault → ℕ
 byte_of EmptyText = 0
 byte_of TextTooLong = 8192
-byte_of (OpenLine n b) = b
+byte_of (OpenLine p) = p.byte
 byte_of (TooManyLines b) = b
-byte_of (NumberNotRising n b) = b
-byte_of (WordMissing n b) = b
-byte_of (NumberOwed n b) = b
-byte_of (WordNotAllowed n b) = b
+byte_of (NumberNotRising p) = p.byte
+byte_of (AtWord c p) = p.byte

@@ -2,24 +2,23 @@
 use Rattle.std.specs.Prelude.{◌≡◌, ℕ, ◌+◌, ◌-◌, ◌<◌, ◌≤◌, cond, List, [], ◌∷◌, ◌++◌, length, Some, None, codes, decimal, Option}
 use Rattle.std.specs.Str.Parse.{digits_value}
 use Rattle.stream.specs.declared.signal.Signal.{Signal}
-use Rattle.stream.specs.declared.signal.Source.{Source}
-use Rattle.stream.specs.declared.signal.Source.TheVariants.{Every, Letter}
+use Rattle.stream.specs.declared.letter.Letter.{Letter}
 use Rattle.monitor.specs.declared.pattern.Pattern.{Pattern}
 use Rattle.monitor.specs.declared.pattern.Pattern.TheVariants.{Never, NeverFrom, HoldLeast, HoldUnder, Repeat, Answer, Keep}
 use Rattle.grammar.specs.declared.tree.Term.{Term}
 use Rattle.grammar.specs.declared.tree.Line.{Line}
-use Rattle.grammar.specs.declared.snag.Cause.{Cause}
-use Rattle.grammar.specs.declared.snag.Cause.TheVariants.{WordMissing, NumberOwed, WordNotAllowed}
+use Rattle.grammar.specs.declared.fault.Cause.{Cause}
+use Rattle.grammar.specs.declared.fault.Cause.TheVariants.{WordMissing, NumberOwed, WordNotAllowed}
 use Rattle.grammar.specs.Words.{words_of, unwords}
 
 -- `*`, or a letter from a on
-abbrev pub source_byte : Source → ℕ
-source_byte Every = 42
-source_byte (Letter l) = 97 + l.bit
+abbrev pub source_byte : Option Letter → ℕ
+source_byte None = 42
+source_byte (Some l) = 97 + l.bit
 
 -- the bare signal, with `!` before it where it is negated
 abbrev pub signal_word : Signal → List ℕ
-signal_word s = cond s.negated (33 ∷ source_byte s.source ∷ []) (source_byte s.source ∷ [])
+signal_word s = cond s.negated (33 ∷ source_byte s.letter ∷ []) (source_byte s.letter ∷ [])
 
 -- the words of a rule's body
 abbrev pub pattern_words : Pattern → List (List ℕ)

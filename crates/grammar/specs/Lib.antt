@@ -7,3 +7,4 @@ pub mod Numbers
 pub mod Tokens
 pub mod Reading
 pub mod Contract
+pub mod Unread

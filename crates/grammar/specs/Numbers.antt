@@ -1,21 +1,21 @@
 -- How a word is read as a number.
-use Rattle.std.specs.Prelude.{ℕ, min, max, Bool, cond, not, ◌&&◌, List, length, Some, None, Option, ◌==◌, nat_le, nat_lt, slice_index}
+use Rattle.std.specs.Prelude.{ℕ, min, max, Bool, cond, not, ◌&&◌, List, length, Some, None, Ok, Err, Option, Result, ◌==◌, nat_le, nat_lt, slice_index}
 use Rattle.std.proofs.Math.Nat.{min-le_right, le-max_left, max-le}
 use Rattle.std.proofs.Common.{lit≤}
 use Rattle.std.specs.Str.Parse.{digits_value}
 use Rattle.std.specs.Str.{all_ascii_digits}
 use Rattle.monitor.specs.declared.limit.Ticks.{Ticks}
 use Rattle.grammar.specs.declared.clause.ClauseNumber.{ClauseNumber}
-use Rattle.grammar.specs.declared.number.Numeral.{Numeral}
-use Rattle.grammar.specs.declared.number.Numeral.TheVariants.{Value, WrongForm, TooHigh}
+use Rattle.grammar.specs.declared.number.Misread.{Misread}
+use Rattle.grammar.specs.declared.number.Misread.TheVariants.{WrongForm, TooHigh}
 
 -- digits, one at least, and no zero before another digit
 abbrev pub well_formed : List ℕ → Bool
 well_formed w = nat_lt 0 (length w) && (all_ascii_digits w && not (slice_index w 0 == 48 && nat_lt 1 (length w)))
 
 -- what a word says as a number of at most `limit`
-abbrev pub reading_of : ℕ → List ℕ → Numeral
-reading_of limit w = cond (well_formed w) (cond (nat_le (digits_value 10 w) limit) (Value (digits_value 10 w)) TooHigh) WrongForm
+abbrev pub reading_of : ℕ → List ℕ → Result ℕ Misread
+reading_of limit w = cond (well_formed w) (cond (nat_le (digits_value 10 w) limit) (Ok (digits_value 10 w)) (Err TooHigh)) (Err WrongForm)
 
 -- the number from low to high that a word is
 abbrev pub number_of : ℕ → ℕ → List ℕ → Option ℕ

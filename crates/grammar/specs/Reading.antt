@@ -7,8 +7,8 @@ use Rattle.monitor.specs.declared.pattern.Pattern.TheVariants.{Never, NeverFrom,
 use Rattle.grammar.specs.declared.clause.ClauseNumber.{ClauseNumber}
 use Rattle.grammar.specs.declared.tree.Term.{Term}
 use Rattle.grammar.specs.declared.tree.Line.{Line}
-use Rattle.grammar.specs.declared.snag.Cause.{Cause}
-use Rattle.grammar.specs.declared.snag.Cause.TheVariants.{WordMissing, NumberOwed, WordNotAllowed}
+use Rattle.grammar.specs.declared.fault.Cause.{Cause}
+use Rattle.grammar.specs.declared.fault.Cause.TheVariants.{WordMissing, NumberOwed, WordNotAllowed}
 use Rattle.grammar.specs.declared.snag.Snag.{Snag}
 use Rattle.grammar.specs.declared.token.Keyword.{Keyword}
 use Rattle.grammar.specs.declared.token.Keyword.TheVariants as K
@@ -212,12 +212,12 @@ line_end l [] = got l []
 line_end l (w ∷ ws) = bad WordNotAllowed (length (unwords (w ∷ ws)))
 
 -- a line of its four parts
-abbrev pub line_of : ClauseNumber → Term → Option Term → Option ℕ → Line
-line_of n f s a = record { number = n; first = f; second = s; allow = a }
+abbrev pub whole_line : ClauseNumber → Term → Option Term → Option ℕ → Line
+whole_line n f s a = record { number = n; first = f; second = s; allow = a }
 
 -- what follows the allowance: the end
 abbrev pub after_allow : ClauseNumber → Term → Option Term → Option ℕ → Ws → Read Line
-after_allow n f s a ws = line_end (line_of n f s a) ws
+after_allow n f s a ws = line_end (whole_line n f s a) ws
 
 -- what follows the rules
 abbrev pub after_second : ClauseNumber → Term → Option Term → Ws → Read Line

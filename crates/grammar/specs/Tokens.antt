@@ -87,13 +87,13 @@ signal_of (n ∷ b ∷ c ∷ cs) = None
 -- the word of a token
 abbrev pub token_text : Token → List ℕ
 token_text (T.Keyword k w) = w.now
-token_text (T.Signal w) = w.now
+token_text (T.Signal s w) = w.now
 token_text (T.Number w) = w.now
 token_text (T.Other w) = w.now
 
 -- what a token says of its word
 abbrev pub TokenIs : Token → Type 0
 TokenIs (T.Keyword k w) = (keyword_of w.now ≡ Some k) × ((signal_of w.now ≡ None) × (well_formed w.now ≡ false))
-TokenIs (T.Signal w) = (keyword_of w.now ≡ None) × (((s : Signal) × (signal_of w.now ≡ Some s)) × (well_formed w.now ≡ false))
+TokenIs (T.Signal s w) = (keyword_of w.now ≡ None) × ((signal_of w.now ≡ Some s) × (well_formed w.now ≡ false))
 TokenIs (T.Number w) = (keyword_of w.now ≡ None) × ((signal_of w.now ≡ None) × (well_formed w.now ≡ true))
 TokenIs (T.Other w) = (keyword_of w.now ≡ None) × ((signal_of w.now ≡ None) × (well_formed w.now ≡ false))

@@ -1,6 +1,7 @@
 ghost use Rattle.std.specs.Prelude.{◌≡◌, ◌<◌, ◌≤◌, ◌⊎◌, MatchOption};
 
 /// The number of a clause: 1 to 9,999.
+// A type of its own, and no instance of a bounded number: letters, limits and clause numbers have each another width, another bound and another answer to what is beyond it.
 #[derive(Clone, Copy)]
 pub struct ClauseNumber {
     value: u16,
@@ -16,14 +17,6 @@ impl ClauseNumber {
             return None;
         }
         Some(ClauseNumber { value })
-    }
-
-    pub(crate) fn within(value: u16) -> ClauseNumber
-        requires from { 1 ≤ value }
-        requires upto { value ≤ 9999 }
-        ensures { result.value ≡ value }
-    {
-        ClauseNumber { value }
     }
 
     pub fn get(self) -> u16

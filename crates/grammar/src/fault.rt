@@ -4,24 +4,37 @@ ghost use Rattle.grammar.specs.Faults.{refusal_of, layer_of, line_number_of, byt
 use stream::Refusal;
 
 /// What of a text a fault is in.
-#[derive(Clone, Copy)]
+#[derive(Clone, Copy, PartialEq, Eq, Debug)]
 pub enum Layer {
     Text,
     Line,
     Book,
 }
 
-/// Why a text is no book, and where. Lines are counted from 1, and bytes from 0 in the whole text.
-#[derive(Clone, Copy)]
+/// A place in a text: a line, counted from 1, and a byte, counted from 0 in the whole text.
+#[derive(Clone, Copy, PartialEq, Eq, Debug)]
+pub struct Place {
+    pub line: usize,
+    pub byte: usize,
+}
+
+/// Why a line goes no further at a word, or at its end.
+#[derive(Clone, Copy, PartialEq, Eq, Debug)]
+pub enum Cause {
+    WordMissing,
+    NumberOwed,
+    WordNotAllowed,
+}
+
+/// Why a text is no book, and where.
+#[derive(Clone, Copy, PartialEq, Eq, Debug)]
 pub enum Fault {
     EmptyText,
     TextTooLong,
-    OpenLine { line: usize, byte: usize },
+    OpenLine(Place),
     TooManyLines { byte: usize },
-    NumberNotRising { line: usize, byte: usize },
-    WordMissing { line: usize, byte: usize },
-    NumberOwed { line: usize, byte: usize },
-    WordNotAllowed { line: usize, byte: usize },
+    NumberNotRising(Place),
+    AtWord(Cause, Place),
 }
 
 impl Fault {
@@ -31,12 +44,12 @@ impl Fault {
         match self {
             Fault::EmptyText => Refusal::EmptyText,
             Fault::TextTooLong => Refusal::TextTooLong,
-            Fault::OpenLine { .. } => Refusal::OpenLine,
+            Fault::OpenLine(_) => Refusal::OpenLine,
             Fault::TooManyLines { .. } => Refusal::TooManyLines,
-            Fault::NumberNotRising { .. } => Refusal::NumberNotRising,
-            Fault::WordMissing { .. } => Refusal::WordMissing,
-            Fault::NumberOwed { .. } => Refusal::NumberOwed,
-            Fault::WordNotAllowed { .. } => Refusal::WordNotAllowed,
+            Fault::NumberNotRising(_) => Refusal::NumberNotRising,
+            Fault::AtWord(Cause::WordMissing, _) => Refusal::WordMissing,
+            Fault::AtWord(Cause::NumberOwed, _) => Refusal::NumberOwed,
+            Fault::AtWord(Cause::WordNotAllowed, _) => Refusal::WordNotAllowed,
         }
     }
 
@@ -44,9 +57,9 @@ impl Fault {
         ensures { result ≡ layer_of self }
     {
         match self {
-            Fault::EmptyText | Fault::TextTooLong | Fault::OpenLine { .. } => Layer::Text,
-            Fault::TooManyLines { .. } | Fault::NumberNotRising { .. } => Layer::Book,
-            _ => Layer::Line,
+            Fault::EmptyText | Fault::TextTooLong | Fault::OpenLine(_) => Layer::Text,
+            Fault::TooManyLines { .. } | Fault::NumberNotRising(_) => Layer::Book,
+            Fault::AtWord(..) => Layer::Line,
         }
     }
 
@@ -56,11 +69,9 @@ impl Fault {
         match self {
             Fault::EmptyText | Fault::TextTooLong => 1,
             Fault::TooManyLines { .. } => 65,
-            Fault::OpenLine { line, .. } => line,
-            Fault::NumberNotRising { line, .. } => line,
-            Fault::WordMissing { line, .. } => line,
-            Fault::NumberOwed { line, .. } => line,
-            Fault::WordNotAllowed { line, .. } => line,
+            Fault::OpenLine(place) | Fault::NumberNotRising(place) | Fault::AtWord(_, place) => {
+                place.line
+            }
         }
     }
 
@@ -71,11 +82,9 @@ impl Fault {
             Fault::EmptyText => 0,
             Fault::TextTooLong => 8192,
             Fault::TooManyLines { byte } => byte,
-            Fault::OpenLine { byte, .. } => byte,
-            Fault::NumberNotRising { byte, .. } => byte,
-            Fault::WordMissing { byte, .. } => byte,
-            Fault::NumberOwed { byte, .. } => byte,
-            Fault::WordNotAllowed { byte, .. } => byte,
+            Fault::OpenLine(place) | Fault::NumberNotRising(place) | Fault::AtWord(_, place) => {
+                place.byte
+            }
         }
     }
 }

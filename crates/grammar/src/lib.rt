@@ -16,7 +16,7 @@ mod tree;
 mod word;
 
 pub use clause::ClauseNumber;
-pub use fault::{Fault, Layer};
+pub use fault::{Cause, Fault, Layer, Place};
 pub use lines::read_lines;
 pub use seat::line_of;
 pub use tree::{Line, Term};

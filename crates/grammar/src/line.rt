@@ -70,6 +70,7 @@ impl<'a> Reader<'a> {
     fn body(&mut self) -> Result<Pattern, Snag>
         ensures { Reads self.old self.new result (read_body (left_of self.old)) }
     {
+        // No `match` on the word: each arm would have to take it as well, which `takes` does once.
         if self.takes(Keyword::Never) {
             self.never()
         } else if self.takes(Keyword::Hold) {
@@ -88,14 +89,16 @@ impl<'a> Reader<'a> {
     fn term(&mut self) -> Result<Term, Snag>
         ensures { Reads self.old self.new result (read_term (left_of self.old)) }
     {
-        let mut after = None;
-        if self.takes(Keyword::After) {
-            after = Some(self.signal()?);
-        }
+        let after = if self.takes(Keyword::After) {
+            Some(self.signal()?)
+        } else {
+            None
+        };
         let pattern = self.body()?;
         Ok(Term { after, pattern })
     }
 
+    // `second` and `allow` are no calls of one method that takes a closure: its contract would name the reader between the two words, and be no plainer.
     fn second(&mut self) -> Result<Option<Term>, Snag>
         ensures { Reads self.old self.new result (read_second (left_of self.old)) }
     {

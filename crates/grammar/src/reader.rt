@@ -5,9 +5,10 @@ ghost use Rattle.grammar.specs.Reading.{bad, none_left, read_number, read_ticks,
 ghost use Rattle.grammar.specs.Contract.{left_of, len_of, Reads, Takes};
 
 use crate::clause::ClauseNumber;
-use crate::number::{Numeral, read_numeral};
-use crate::snag::{Cause, Snag};
-use crate::token::{Keyword, Token, read_signal};
+use crate::fault::Cause;
+use crate::number::read_numeral;
+use crate::snag::Snag;
+use crate::token::{Keyword, Token};
 use crate::word::length_to;
 use monitor::Ticks;
 use stream::Signal;
@@ -24,22 +25,15 @@ impl<'a> Reader<'a> {
     fn word(&self) -> Option<&'a [u8]>
         ensures { MatchOption result (left_of self.now ≡ []) (λ w. (left_of self.now ≡ w.now ∷ left self.now.line.now (self.now.at + length w.now + 1)) × (self.now.at + length w.now ≤ len_of self.now)) }
     {
-        let line = self.line;
-        let at = self.at;
-        if at > line.len() {
-            return None;
-        }
-        let rest = &line[at..];
-        let n = length_to(rest, b' ');
-        Some(&rest[0..n])
+        let rest = self.line.get(self.at..)?;
+        Some(&rest[..length_to(rest, b' ')])
     }
 
     /// The next word by its kind; it stays.
     fn peek(&self) -> Option<Token<'a>>
         ensures { MatchOption result (left_of self.now ≡ []) (λ t. TokenIs t × ((left_of self.now ≡ token_text t ∷ left self.now.line.now (self.now.at + length (token_text t) + 1)) × (self.now.at + length (token_text t) ≤ len_of self.now))) }
     {
-        let word = self.word()?;
-        Some(Token::of(word))
+        self.word().map(Token::from)
     }
 
     /// A snag at the next word, or at the line's end.
@@ -67,7 +61,7 @@ impl<'a> Reader<'a> {
         ensures { Takes self.old self.new result owed }
     {
         match self.peek() {
-            Some(Token::Keyword(keyword, word)) if keyword.is(owed) => {
+            Some(Token::Keyword(keyword, word)) if keyword == owed => {
                 self.pass(word);
                 true
             }
@@ -105,18 +99,12 @@ impl<'a> Reader<'a> {
     pub(crate) fn signal(&mut self) -> Result<Signal, Snag>
         ensures { Reads self.old self.new result (read_signal (left_of self.old)) }
     {
-        let Some(token) = self.peek() else {
-            return Err(self.snag(Cause::WordMissing));
-        };
-        let Token::Signal(word) = token else {
-            return Err(self.snag(Cause::WordNotAllowed));
-        };
-        match read_signal(word) {
-            Some(signal) => {
+        match self.peek() {
+            Some(Token::Signal(signal, word)) => {
                 self.pass(word);
                 Ok(signal)
             }
-            None => Err(self.snag(Cause::WordNotAllowed)),
+            _ => Err(self.refuse()),
         }
     }
 
@@ -125,18 +113,17 @@ impl<'a> Reader<'a> {
         ensures reads { Reads self.old self.new result (read_number low high (left_of self.old)) }
         ensures range { IfOk result (λ n. (low ≤ n) × (n ≤ high)) }
     {
-        let Some(token) = self.peek() else {
-            return Err(self.snag(Cause::WordMissing));
-        };
+        let token = self.peek().ok_or(self.snag(Cause::WordMissing))?;
+        let owed = self.snag(Cause::NumberOwed);
         let Token::Number(word) = token else {
-            return Err(self.snag(Cause::NumberOwed));
+            return Err(owed);
         };
         match read_numeral(word, high) {
-            Numeral::Value(n) if low <= n => {
+            Ok(n) if low <= n => {
                 self.pass(word);
                 Ok(n)
             }
-            _ => Err(self.snag(Cause::NumberOwed)),
+            _ => Err(owed),
         }
     }
 
@@ -144,16 +131,13 @@ impl<'a> Reader<'a> {
         ensures { Reads self.old self.new result (read_ticks (left_of self.old)) }
     {
         let n = self.number(0, 999_999_999)?;
-        match Ticks::new(n) {
-            Ok(ticks) => Ok(ticks),
-            Err(_) => unreachable(),
-        }
+        Ok(Ticks::new(n).unwrap())
     }
 
     pub(crate) fn clause(&mut self) -> Result<ClauseNumber, Snag>
         ensures { Reads self.old self.new result (read_clause (left_of self.old)) }
     {
         let n = self.number(1, 9999)?;
-        Ok(ClauseNumber::within(n as u16))
+        Ok(ClauseNumber::new(n as u16).unwrap())
     }
 }

@@ -3,6 +3,7 @@ ghost use Rattle.stream.specs.declared.refusal.Refusal.TheVariants.{NoSuchLine};
 ghost use Rattle.grammar.specs.Words.{line_ends};
 ghost use Rattle.grammar.specs.Seats.{LineAt};
 
+use crate::word::split_line;
 use stream::Refusal;
 
 /// The line of a seat, counted from 1, as a part of the text, its end byte left off. A tail that is not ended is no line.
@@ -12,16 +13,10 @@ pub fn line_of<'a>(text: &'a [u8], seat: u8) -> Result<&'a [u8], Refusal>
     if seat == 0 {
         return Err(Refusal::NoSuchLine);
     }
-    let mut start = 0;
-    let mut left = seat;
-    for (i, b) in text.iter().enumerate() {
-        if *b == b'\n' {
-            left -= 1;
-            if left == 0 {
-                return Ok(&text[start..i]);
-            }
-            start = i + 1;
-        }
+    let mut rest = text;
+    for _ in 1..seat {
+        (_, rest) = split_line(rest).ok_or(Refusal::NoSuchLine)?;
     }
-    Err(Refusal::NoSuchLine)
+    let (line, _) = split_line(rest).ok_or(Refusal::NoSuchLine)?;
+    Ok(line)
 }

@@ -1,7 +1,5 @@
 use super::*;
-use monitor::Pattern;
 use std::test::Fail;
-use stream::Signal;
 
 /// A book of 65 lines.
 const LONG_BOOK: &[u8] =
@@ -15,30 +13,14 @@ const LONG_BOOK: &[u8] =
         57 never a\n58 never a\n59 never a\n60 never a\n61 never a\n62 never a\n63 never a\n64 never a\n\
         65 never a\n";
 
-fn blank() -> Result<Line, Fail> {
-    let Some(number) = ClauseNumber::new(1) else {
-        return Err(Fail::new("no number"));
-    };
-    let pattern = Pattern::Never {
-        p: Signal::every().negated(),
-    };
-    Ok(Line {
-        number,
-        first: Term {
-            after: None,
-            pattern,
-        },
-        second: None,
-        allow: None,
-    })
-}
-
-/// The refusal's number, the line and the byte of a text's fault; or 0, how many lines it has, and the last number.
-fn read(text: &[u8]) -> Result<(u8, usize, usize), Fail> {
-    let mut table = [blank()?; 64];
-    match read_lines(text, &mut table) {
-        Ok(n) => Ok((0, n, table[(n + 63) % 64].number.get() as usize)),
-        Err(fault) => Ok((fault.refusal().number(), fault.line(), fault.byte())),
+/// How many lines a text has, and the last number; or its fault's number, line and byte.
+fn read(text: &[u8]) -> Result<(usize, u16), (u8, usize, usize)> {
+    match read_lines(text) {
+        Ok(lines) => Ok((
+            lines.len(),
+            lines.last().map_or(0, |line| line.number.get()),
+        )),
+        Err(fault) => Err((fault.refusal().number(), fault.line(), fault.byte())),
     }
 }
 
@@ -65,11 +47,11 @@ fn each_fault_at_its_place(rt: HostRuntime) -> Result<(), Fail> {
         (b"2 never a\n2 nonsense\n", (27, 2, 10)),
     ];
     for (text, fault) in cases {
-        assert_eq!(rt; read(text)?, fault);
+        assert_eq!(rt; read(text), Err(fault));
     }
-    assert_eq!(rt; read(&[b'\n'; 8192])?, (26, 1, 0));
-    assert_eq!(rt; read(&[b'\n'; 8193])?, (22, 1, 8192));
-    assert_eq!(rt; read(LONG_BOOK)?, (28, 65, 695));
+    assert_eq!(rt; read(&[b'\n'; 8192]), Err((26, 1, 0)));
+    assert_eq!(rt; read(&[b'\n'; 8193]), Err((22, 1, 8192)));
+    assert_eq!(rt; read(LONG_BOOK), Err((28, 65, 695)));
     Ok(())
 }
 
@@ -78,12 +60,12 @@ fn books_and_their_lines(rt: HostRuntime) -> Result<(), Fail> {
     assert_eq!(rt;
         read(
             b"1 after !a hold b under 5 or keep c for 7 since * allow 255\n9999 answer a by x within 999999999\n",
-        )?,
-        (0, 2, 9999)
+        ),
+        Ok((2, 9999))
     );
     assert_eq!(rt;
-        read(b"1 never a\n2 never a from 0\n7 hold !* least 10\n8 repeat a within 1\n")?,
-        (0, 4, 8)
+        read(b"1 never a\n2 never a from 0\n7 hold !* least 10\n8 repeat a within 1\n"),
+        Ok((4, 8))
     );
     assert_eq!(rt; line_of(b"ab\n\ncd\ne", 3)?, b"cd".as_slice());
     assert_eq!(rt; line_of(b"ab\n\ncd\ne", 2)?, b"".as_slice());

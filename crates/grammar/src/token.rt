@@ -1,12 +1,11 @@
 ghost use Rattle.std.specs.Prelude.{◌≡◌};
-ghost use Rattle.grammar.specs.Tokens.{same_key, first_key, keywords, bare_of, signal_of, token_text, TokenIs};
+ghost use Rattle.grammar.specs.Tokens.{first_key, keywords, bare_of, signal_of, token_text, TokenIs};
 
-use crate::number::{Numeral, read_numeral};
-use crate::word::same_word;
+use crate::number::{Misread, read_numeral};
 use stream::Signal;
 
 /// The words that a line is built with.
-#[derive(Clone, Copy)]
+#[derive(Clone, Copy, PartialEq, Eq)]
 pub enum Keyword {
     After,
     Never,
@@ -25,19 +24,11 @@ pub enum Keyword {
     Allow,
 }
 
-impl Keyword {
-    pub(crate) fn is(self, other: Keyword) -> bool
-        ensures { result ≡ same_key self other }
-    {
-        self as u8 == other as u8
-    }
-}
-
 /// A word, by what it looks like, with its part of the text.
 #[derive(Clone, Copy)]
 pub enum Token<'a> {
     Keyword(Keyword, &'a [u8]),
-    Signal(&'a [u8]),
+    Signal(Signal, &'a [u8]),
     Number(&'a [u8]),
     Other(&'a [u8]),
 }
@@ -45,38 +36,23 @@ pub enum Token<'a> {
 pub(crate) fn read_keyword(word: &[u8]) -> Option<Keyword>
     ensures { result ≡ first_key word.now keywords }
 {
-    if same_word(word, b"after") {
-        Some(Keyword::After)
-    } else if same_word(word, b"never") {
-        Some(Keyword::Never)
-    } else if same_word(word, b"from") {
-        Some(Keyword::From)
-    } else if same_word(word, b"hold") {
-        Some(Keyword::Hold)
-    } else if same_word(word, b"least") {
-        Some(Keyword::Least)
-    } else if same_word(word, b"under") {
-        Some(Keyword::Under)
-    } else if same_word(word, b"repeat") {
-        Some(Keyword::Repeat)
-    } else if same_word(word, b"within") {
-        Some(Keyword::Within)
-    } else if same_word(word, b"answer") {
-        Some(Keyword::Answer)
-    } else if same_word(word, b"by") {
-        Some(Keyword::By)
-    } else if same_word(word, b"keep") {
-        Some(Keyword::Keep)
-    } else if same_word(word, b"for") {
-        Some(Keyword::For)
-    } else if same_word(word, b"since") {
-        Some(Keyword::Since)
-    } else if same_word(word, b"or") {
-        Some(Keyword::Or)
-    } else if same_word(word, b"allow") {
-        Some(Keyword::Allow)
-    } else {
-        None
+    match word {
+        b"after" => Some(Keyword::After),
+        b"never" => Some(Keyword::Never),
+        b"from" => Some(Keyword::From),
+        b"hold" => Some(Keyword::Hold),
+        b"least" => Some(Keyword::Least),
+        b"under" => Some(Keyword::Under),
+        b"repeat" => Some(Keyword::Repeat),
+        b"within" => Some(Keyword::Within),
+        b"answer" => Some(Keyword::Answer),
+        b"by" => Some(Keyword::By),
+        b"keep" => Some(Keyword::Keep),
+        b"for" => Some(Keyword::For),
+        b"since" => Some(Keyword::Since),
+        b"or" => Some(Keyword::Or),
+        b"allow" => Some(Keyword::Allow),
+        _ => None,
     }
 }
 
@@ -85,10 +61,7 @@ fn read_bare(b: u8) -> Option<Signal>
 {
     match b as char {
         '*' => Some(Signal::every()),
-        'a'..='x' => match Signal::letter(b - b'a') {
-            Ok(signal) => Some(signal),
-            Err(_) => None,
-        },
+        'a'..='x' => Signal::letter(b - b'a').ok(),
         _ => None,
     }
 }
@@ -106,20 +79,18 @@ pub(crate) fn read_signal(word: &[u8]) -> Option<Signal>
     }
 }
 
-impl<'a> Token<'a> {
-    pub(crate) fn of(word: &'a [u8]) -> Token<'a>
-        ensures text { token_text result ≡ word.now }
-        ensures kind { TokenIs result }
-    {
-        let Numeral::WrongForm = read_numeral(word, 999_999_999) else {
-            return Token::Number(word);
-        };
-        match read_keyword(word) {
-            Some(keyword) => Token::Keyword(keyword, word),
-            None => match read_signal(word) {
-                Some(_) => Token::Signal(word),
-                None => Token::Other(word),
-            },
+impl<'a> From<&'a [u8]> for Token<'a> {
+    ghost from_gives = { λ word token. (token_text token ≡ word.now) × TokenIs token };
+
+    fn from(word: &'a [u8]) -> Token<'a> {
+        if read_numeral(word, 999_999_999) != Err(Misread::WrongForm) {
+            Token::Number(word)
+        } else if let Some(keyword) = read_keyword(word) {
+            Token::Keyword(keyword, word)
+        } else if let Some(signal) = read_signal(word) {
+            Token::Signal(signal, word)
+        } else {
+            Token::Other(word)
         }
     }
 }

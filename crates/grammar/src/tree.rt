@@ -1,3 +1,6 @@
+ghost use Rattle.std.specs.Prelude.{◌≡◌};
+ghost use Rattle.grammar.specs.Unread.{unread_line};
+
 use crate::clause::ClauseNumber;
 use monitor::Pattern;
 use stream::Signal;
@@ -16,4 +19,22 @@ pub struct Line {
     pub first: Term,
     pub second: Option<Term>,
     pub allow: Option<u8>,
+}
+
+/// The line `1 never !*`, which no sample fails.
+impl Default for Line {
+    ghost is_default = { λ l. l ≡ unread_line };
+
+    fn default() -> Line {
+        let p = Signal::every().negated();
+        Line {
+            number: ClauseNumber::new(1).unwrap(),
+            first: Term {
+                after: None,
+                pattern: Pattern::Never { p },
+            },
+            second: None,
+            allow: None,
+        }
+    }
 }

@@ -1,13 +1,11 @@
-use Rattle.std.proofs.Common.{length, rules}
-use Rattle.std.proofs.lemmas.List.{at_drop_more, at_drop_all}
-use Rattle.grammar.specs.Words.{up_to}
+use Rattle.std.proofs.Common.{eqb, length, ap, ◌∙◌, rules, tests}
+use Rattle.std.specs.Option.{unwrap_or}
+use Rattle.std.proofs.lemmas.Iterator.{YieldsList-from_slice}
+use Rattle.std.proofs.lemmas.Iterator.Search.{position_from_yields_List}
+use Rattle.grammar.proofs.Cuts.{length-up_to}
 use Rattle.grammar.proofs.word.length_to.Goals as goal
 
-pub returns-then-b-stop : goal.returns-then-b-stop
-returns-then-b-stop c = search (rules, at_drop_more (λ l. length (up_to c.args.stop l)) c.args.s.now c.loop-i.i 0)
-
-pub loop-i-preserved : goal.loop-i-preserved
-loop-i-preserved c = search (rules, at_drop_more (λ l. length (up_to c.args.stop l)) c.args.s.now c.loop-i.i 0)
-
-pub returns : goal.returns
-returns c = search (rules, at_drop_all (λ l. length (up_to c.args.stop l)) c.args.s.now c.loop-i.i)
+pub returns-clause-long : goal.returns-clause-long
+returns-clause-long c =
+    let found = position_from_yields_List (λ b. eqb b c.args.stop) _ _ c.position.result c.position.ensures.ran (YieldsList-from_slice c.args.s.now c.iter.ensures.rest) (λ x b q k. search (rules, tests)) in
+    c.unwrap_or.ensures ∙ ap (λ o. unwrap_or o (length c.args.s.now)) found ∙ length-up_to c.args.stop c.args.s.now

@@ -1,7 +1,8 @@
-use Rattle.grammar.proofs.Same.{ticks_read}
+use Rattle.grammar.specs.Numbers.{ticks_of}
+use Rattle.grammar.proofs.Same.{ticks_is, made_read}
 use Rattle.grammar.proofs.reader.Reader.ticks.Goals as goal
 
 pub returns : goal.returns
 returns c =
     let h = c.in_ok-n.ensures.reads in
-    record { answer = ticks_read _ _ _ c.in-Ok.ticks h.answer c.in-Ok.ensures; kept = h.kept; place = tt }
+    record { answer = made_read ticks_of _ _ _ _ h.answer (ticks_is _ _ (rw c.unwrap.ensures at c.new.ensures)); kept = h.kept; place = tt }

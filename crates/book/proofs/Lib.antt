@@ -1,4 +1,3 @@
 pub mod Same
 pub mod Seats
-pub mod Judged
 pub mod Made

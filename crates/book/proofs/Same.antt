@@ -1,17 +1,7 @@
--- What is the same whatever shows it: a clause number with its value, and sentences over parts that are decided.
-use Rattle.std.proofs.Common.{◌≡◌, ℕ, zero, suc, ◌≤◌, Bool, List, take, drop, Decides}
-use mathlib.Core.HLevel.{is_prop→PathP}
-use native.Mathlib.Bridge.{le_prop}
+-- Openings that fail are the same for sentences that are.
+use Rattle.std.proofs.Common.{ℕ, zero, suc, Bool, List, take, drop, Decides}
 use Rattle.stream.specs.declared.sample.Sample.{Sample}
-use Rattle.grammar.specs.declared.clause.ClauseNumber.{ClauseNumber}
 use Rattle.layers.specs.Parts.{Fails, Breaks}
-
-pub same_number : (x y : ClauseNumber) → x.value ≡ y.value → x ≡ y
-same_number x y v i = record {
-  value = v i;
-  from = is_prop→PathP (λ j. 1 ≤ v j) (λ j. le_prop) x.from y.from i;
-  upto = is_prop→PathP (λ j. v j ≤ 9999) (λ j. le_prop) x.upto y.upto i;
-}
 
 breaks_by : {P Q : List Sample → Type 0} → ((l : List Sample) → P l → Q l) → ((l : List Sample) → Q l → P l) → (k : ℕ) (l : List Sample) → Breaks P k l → Breaks Q k l
 breaks_by f g zero l b = tt

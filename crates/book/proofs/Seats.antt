@@ -1,63 +1,54 @@
--- The seats of a table of which the first n count.
-use Rattle.std.specs.Prelude.{◌≡◌, ℕ, zero, suc, ◌+◌, ◌-◌, ◌<◌, ◌≤◌, Bool, false, ◌&&◌, ◌||◌, ◌⊎◌, List, [], ◌∷◌, length, take, Some, None, ◌==◌, ◌≢◌, slice_set, refl}
-use Rattle.std.proofs.Common.{sym, ap, ◌∙◌, inl, inr, ⊎_elim, arith}
-use Rattle.std.specs.List.{slice_get}
-use Rattle.std.proofs.lemmas.Bool.{cases_lt}
+-- A book's clauses, one after another.
+use Rattle.std.specs.Prelude.{◌≡◌, ℕ, zero, suc, ◌+◌, ◌<◌, true, false, ◌&&◌, ◌||◌, List, [], ◌∷◌, ◌++◌, length, Some, ◌==◌, refl}
+use Rattle.std.proofs.Common.{sym, ap, ◌∙◌, arith}
+use Rattle.std.specs.List.{slice_get, AllZip}
 use Rattle.std.proofs.lemmas.Bool.Decides.{nat_tests}
+use Rattle.stream.specs.declared.sample.Sample.{Sample}
 use Rattle.panel.specs.declared.seats.Seats.{Seats}
 use Rattle.panel.specs.Seating.{is_seat, has_seat}
 use Rattle.book.specs.declared.clause.Clause.{Clause}
 use Rattle.book.specs.Clauses.{fails_clause}
 use Rattle.book.specs.Seating.{at_seat, fails_at, number_of}
-use Rattle.book.specs.Laws.{nth_beyond}
 
-module _ {T : Type 0} where
-  pub nth_set : (xs : List T) (i : ℕ) (y : T) → i < length xs → slice_get (slice_set xs i y) i ≡ Some y
-  nth_set [] i y h = absurd (omega arith)
-  nth_set (x ∷ xs) zero y h = refl
-  nth_set (x ∷ xs) (suc i) y h = nth_set xs i y (omega arith)
+-- the lost seats of some clauses are found
+abbrev pub Found : List Clause → Seats → Type 0
+Found cs lost = (k : ℕ) → has_seat lost k ≡ fails_at (at_seat cs k) []
 
-  pub nth_other : (xs : List T) (i k : ℕ) (y : T) → (k ≢ i) → slice_get (slice_set xs i y) k ≡ slice_get xs k
-  nth_other [] i k y h = refl
-  nth_other (x ∷ xs) zero zero y h = absurd (h refl)
-  nth_other (x ∷ xs) zero (suc k) y h = refl
-  nth_other (x ∷ xs) (suc i) zero y h = refl
-  nth_other (x ∷ xs) (suc i) (suc k) y h = nth_other xs i k y (λ e. h (ap suc e))
+-- one clause more, which stands or is lost
+standing : (cs : List Clause) (y : Clause) → fails_clause y [] ≡ false → (k : ℕ) → fails_at (slice_get cs k) [] ≡ fails_at (slice_get (cs ++ y ∷ []) k) []
+standing [] y e zero = sym e
+standing [] y e (suc k) = refl
+standing (c ∷ cs) y e zero = refl
+standing (c ∷ cs) y e (suc k) = standing cs y e k
 
-  pub nth_within : (n : ℕ) (xs : List T) (k : ℕ) → k < n → slice_get (take n xs) k ≡ slice_get xs k
-  nth_within zero xs k h = absurd (omega arith)
-  nth_within (suc n) [] k h = refl
-  nth_within (suc n) (x ∷ xs) zero h = refl
-  nth_within (suc n) (x ∷ xs) (suc k) h = nth_within n xs k (omega arith)
+lost_too : (cs : List Clause) (y : Clause) → fails_clause y [] ≡ true → (k : ℕ) → (fails_at (slice_get cs k) [] || length cs == k) ≡ fails_at (slice_get (cs ++ y ∷ []) k) []
+lost_too [] y e zero = sym e
+lost_too [] y e (suc k) = grind (arith, nat_tests)
+lost_too (c ∷ cs) y e zero = grind (arith, nat_tests)
+lost_too (c ∷ cs) y e (suc k) = grind (arith, nat_tests, lost_too cs y e k)
 
--- the lost seats among the first i are found, and with seat i + 1 those among the first i + 1
-abbrev pub Found : ℕ → List Clause → Seats → Type 0
-Found i cs lost = (k : ℕ) → has_seat lost k ≡ fails_at (at_seat (take i cs) k) []
+module _ (cs : List Clause) (i : ℕ) (y : Clause) (old : Seats) (found : Found cs old) where
+  pub found_standing : fails_clause y [] ≡ false → Found (cs ++ y ∷ []) old
+  found_standing e zero = found zero
+  found_standing e (suc k) = found (suc k) ∙ standing cs y e k
 
-pub found_none : (cs : List Clause) (lost : Seats) → ((k : ℕ) → has_seat lost k ≡ false) → Found 0 cs lost
-found_none cs lost none zero = none 0
-found_none cs lost none (suc k) = none (suc k)
+  pub found_lost : (one new : Seats) → length cs ≡ i → i < 64 → fails_clause y [] ≡ true → ((k : ℕ) → has_seat one k ≡ (i + 1 == k && is_seat k))
+      → ((k : ℕ) → has_seat new k ≡ (has_seat old k || has_seat one k)) → Found (cs ++ y ∷ []) new
+  found_lost one new long h e o n zero = grind (arith, nat_tests, n zero, o zero, found zero)
+  found_lost one new long h e o n (suc k) = grind (arith, nat_tests, long, n (suc k), o (suc k), found (suc k), lost_too cs y e k)
 
-module _ (i : ℕ) (low : i < 64) (cs ds : List Clause) (y : Clause) (b : Bool) (same : (k : ℕ) → k < i → slice_get ds k ≡ slice_get cs k) (here : slice_get ds i ≡ Some y) (answer : b ≡ fails_clause y []) where
-  seats_more : (k : ℕ) → (fails_at (at_seat (take i cs) k) [] || (b && (i + 1 == k && is_seat k))) ≡ fails_at (at_seat (take (i + 1) ds) k) []
-  seats_more zero = grind (arith, nat_tests)
-  seats_more (suc k) = elim (cases_lt k i) [
-    | inl lt ↦ rw (nth_within i cs k lt, nth_within (i + 1) ds k (omega arith), same k lt) (grind (arith, nat_tests))
-    | inr ge ↦ elim (cases_lt i k) [
-      | inl gt ↦ rw (nth_beyond i cs k ge, nth_beyond (i + 1) ds k (omega arith)) (grind (arith, nat_tests))
-      | inr le ↦ (let e : k ≡ i = omega arith in rw (nth_beyond i cs k ge, nth_within (i + 1) ds k (omega arith), e, here) (grind (arith, nat_tests, answer)))
-    ]
-  ]
+-- x has been judged
+abbrev pub Judged : Sample → Clause → Clause → Type 0
+Judged x c d = ((l : List Sample) → fails_clause d l ≡ fails_clause c (x ∷ l)) × (d.number ≡ c.number)
 
-  pub found_more : (old new : Seats) → Found i cs old → ((k : ℕ) → has_seat new k ≡ (has_seat old k || (b && (i + 1 == k && is_seat k)))) → Found (i + 1) ds new
-  found_more old new o n k = n k ∙ ap (λ (t : Bool). t || (b && (i + 1 == k && is_seat k))) (o k) ∙ seats_more k
+module _ (x : Sample) where
+  at_judged : (cs ds : List Clause) → AllZip (Judged x) cs ds → (k : ℕ) → ((l : List Sample) → fails_at (slice_get ds k) l ≡ fails_at (slice_get cs k) (x ∷ l)) × (number_of (slice_get ds k) ≡ number_of (slice_get cs k))
+  at_judged [] [] z k = (λ l. refl, refl)
+  at_judged [] (d ∷ ds) z k = absurd z
+  at_judged (c ∷ cs) [] z k = absurd z
+  at_judged (c ∷ cs) (d ∷ ds) z zero = (z.0.0, ap (λ n. Some n.value) z.0.1)
+  at_judged (c ∷ cs) (d ∷ ds) z (suc k) = at_judged cs ds z.1 k
 
--- the clause number of a seat
-module _ (cs : List Clause) (n : ℕ) where
-  pub number_within : (k : ℕ) (c : Clause) → 1 ≤ k → k ≤ n → slice_get cs (k - 1) ≡ Some c → Some c.number.value ≡ number_of (at_seat (take n cs) k)
-  number_within zero c low h e = absurd (omega arith)
-  number_within (suc k) c low h e = let s : suc k - 1 ≡ k = omega arith in ap number_of (sym (nth_within n cs k h ∙ ap (slice_get cs) (sym s) ∙ e))
-
-  pub number_beyond : (k : ℕ) → (k ≡ 0) ⊎ (n < k) → None ≡ number_of (at_seat (take n cs) k)
-  number_beyond zero out = refl
-  number_beyond (suc k) out = ap number_of (sym (nth_beyond n cs k (⊎_elim (λ e. absurd (omega arith)) (λ h. omega arith) out)))
+  pub judged_seats : (cs ds : List Clause) → AllZip (Judged x) cs ds → (k : ℕ) → ((l : List Sample) → fails_at (at_seat ds k) l ≡ fails_at (at_seat cs k) (x ∷ l)) × (number_of (at_seat ds k) ≡ number_of (at_seat cs k))
+  judged_seats cs ds z zero = (λ l. refl, refl)
+  judged_seats cs ds z (suc k) = at_judged cs ds z k

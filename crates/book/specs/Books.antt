@@ -1,10 +1,7 @@
 -- Which book is that of some lines.
-use Rattle.std.specs.Prelude.{◌≡◌, ℕ, List, length, IsSomeAnd, None, Decides, Option}
-use Rattle.std.proofs.Common.{lit≤}
+use Rattle.std.specs.Prelude.{◌≡◌, ℕ, List, length, IsSomeAnd, Decides, Option}
 use Rattle.std.specs.Option.{option_map}
 use Rattle.stream.specs.declared.sample.Sample.{Sample}
-use Rattle.stream.specs.Signals.{every_signal, negated_signal}
-use Rattle.monitor.specs.declared.pattern.Pattern.TheVariants.{Never}
 use Rattle.grammar.specs.declared.tree.Line.{Line}
 use Rattle.book.specs.declared.book.Book.{Book}
 use Rattle.book.specs.Meaning.{ClauseFails}
@@ -23,8 +20,3 @@ pub record Holds (b : Book) (ls : List Line) : Type 0 where
   pub seats : seats_of b ≡ length ls
   pub meaning : (l : List Sample) (k : ℕ) → Decides (book_fails b l k) (SeatFails ls k l)
   pub numbers : (k : ℕ) → number_at b k ≡ line_number ls k
-
--- the line `1 never !*`
-abbrev pub unread_line : Line
-unread_line = record
-    { number = record { value = 1; from = lit≤ tt; upto = lit≤ tt }; first = record { after = None; pattern = Never (negated_signal every_signal) }; second = None; allow = None }

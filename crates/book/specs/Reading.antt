@@ -2,7 +2,7 @@
 use Rattle.std.specs.Prelude.{◌≡◌, ℕ, List, Ok, Err, Result}
 use Rattle.grammar.specs.declared.tree.Line.{Line}
 use Rattle.grammar.specs.declared.fault.Fault.{Fault}
-use Rattle.grammar.specs.Books.{IsBook, BookFault, IsOneFault}
+use Rattle.grammar.specs.Books.{IsBook, BookFault}
 use Rattle.book.specs.declared.book.Book.{Book}
 use Rattle.book.specs.Books.{Holds}
 
@@ -15,8 +15,3 @@ Reads text before (Err f) after = BookFault text f × (after ≡ before)
 abbrev pub HoldsRead : List Line → Result (Unit {0}) Fault → Book → Type 0
 HoldsRead ls (Ok done) after = Holds after ls
 HoldsRead ls (Err f) after = ⊥
-
--- where a fault is answered, it is the one fault of the text
-abbrev pub OneFault : List ℕ → Result (Unit {0}) Fault → Type 0
-OneFault text (Ok done) = Unit {0}
-OneFault text (Err f) = IsOneFault text f

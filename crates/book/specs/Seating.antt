@@ -1,8 +1,9 @@
 -- What the seats of a book answer, from what its clauses do. Whose lines they are is promised where a book is made.
-use Rattle.std.specs.Prelude.{ℕ, zero, suc, Bool, false, List, take, Some, None, Option}
+use Rattle.std.specs.Prelude.{ℕ, zero, suc, Bool, false, List, Some, None, Option}
 use Rattle.std.specs.List.{slice_get}
 use Rattle.std.specs.Option.{option_map}
 use Rattle.stream.specs.declared.sample.Sample.{Sample}
+use Rattle.arrayvec.specs.ArrayVec.{array_vec_len}
 use Rattle.book.specs.declared.clause.Clause.{Clause}
 use Rattle.book.specs.declared.book.Book.{Book}
 use Rattle.book.specs.Clauses.{fails_clause}
@@ -14,11 +15,11 @@ at_seat xs (suc k) = slice_get xs k
 
 -- how many seats a book has
 abbrev pub seats_of : Book → ℕ
-seats_of b = b.count.value
+seats_of b = array_vec_len b.clauses
 
--- its clauses: as many of its table as it has seats
+-- its clauses, from seat 1 on
 abbrev pub clauses_of : Book → List Clause
-clauses_of b = take (seats_of b) b.clauses
+clauses_of b = b.clauses.items
 
 -- a seat without a clause is never lost
 abbrev pub fails_at : Option Clause → List Sample → Bool

@@ -1,10 +1,10 @@
-ghost use Rattle.std.specs.Prelude.{◌≡◌, List, [], ◌∷◌, Decides};
+ghost use Rattle.std.specs.Prelude.{◌≡◌, List, [], ◌∷◌};
 ghost use Rattle.stream.specs.declared.sample.Sample.{Sample};
-ghost use Rattle.book.specs.Clauses.{fails_clause, fresh_clause};
-ghost use Rattle.book.specs.Meaning.{ClauseFails};
+ghost use Rattle.grammar.specs.Unread.{unread_line};
+ghost use Rattle.book.specs.Clauses.{fails_clause, fresh_clause, Says};
 ghost use Rattle.book.specs.Laws.{clause_lasting, clause_lasting_new, clause_starts};
 
-use crate::body::Body;
+use crate::rules::{Body, body_of};
 use grammar::{ClauseNumber, Line};
 use layers::Allow;
 use monitor::{Monitor, judge_on};
@@ -17,20 +17,29 @@ pub struct Clause {
     body: Allow<Body>,
 }
 
-impl Clause {
-    /// The clause of a line, before any sample.
-    pub fn of(line: &Line) -> Clause
-        ensures numbered { result.number ≡ line.now.number }
-        ensures meaning { (l : List Sample) → Decides (fresh_clause result l) (ClauseFails line.now l) }
-        ensures made { (l : List Sample) → fails_clause result l ≡ fresh_clause result l }
-    {
+/// The clause of a line, before any sample.
+impl From<&Line> for Clause {
+    ghost from_gives = { λ line c. Says line.now c };
+
+    fn from(line: &Line) -> Clause {
         let allowed = line.allow.unwrap_or(0);
         Clause {
             number: line.number,
-            body: Allow::new(allowed, Body::of(line)),
+            body: Allow::new(allowed, body_of(line)),
         }
     }
+}
 
+/// The clause of the line of a book that was never read.
+impl Default for Clause {
+    ghost is_default = { Says unread_line };
+
+    fn default() -> Clause {
+        Clause::from(&Line::default())
+    }
+}
+
+impl Clause {
     /// The number of the clause.
     pub fn number(&self) -> u16
         ensures { result ≡ self.now.number.value }

@@ -3,11 +3,9 @@
 
 #![tactic(auto)]
 
-mod body;
 mod book;
 mod clause;
-mod count;
-mod guarded;
+mod rules;
 #[cfg(test)]
 mod tests;
 

@@ -44,9 +44,7 @@ fn hold_under() -> Result<Line, Refusal> {
 
 #[test]
 fn two_lines(rt: HostRuntime) -> Result<(), Fail> {
-    let mut lines = [after_never()?; 64];
-    lines[1] = hold_under()?;
-    let mut book = Book::of(&lines, 2);
+    let mut book = Book::of(&[after_never()?, hold_under()?]);
     assert!(rt; book.judge(Sample::new(0, A | D)?).is_empty());
     assert!(rt; book.judge(Sample::new(4, C | D)?).is_empty());
     assert!(rt; book.judge(Sample::new(1, A)?).has(1));

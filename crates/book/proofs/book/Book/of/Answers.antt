@@ -1,29 +1,22 @@
-use Rattle.std.proofs.Common.{◌≡◌, ℕ, ◌<◌, length, get_or, take, ◌∙◌, subst, arith, length-set, rules}
-use Rattle.std.proofs.lemmas.Option.{slice_get-get_or}
-use Rattle.book.specs.declared.book.Book.{Book}
-use Rattle.book.specs.Books.{Holds}
-use Rattle.book.proofs.Made.{Says, says_more, says_all}
+use Rattle.std.proofs.Common.{get_or, subst, rules, take_all}
+use Rattle.std.proofs.lemmas.List.{take_more}
+use Rattle.std.specs.List.{AllZip}
+use Rattle.book.specs.Clauses.{Says}
+use Rattle.book.proofs.Made.{zip_push, holds_all}
 use Rattle.book.proofs.book.Book.of.Goals as goal
 
-pub loop-i-preserved : goal.loop-i-preserved
-loop-i-preserved c =
-    let (long, says) = c.loop-i.invariant in
+pub loop-line-preserved : goal.loop-line-preserved
+loop-line-preserved c =
     let ls = c.args.lines.now in
-    let cs = c.loop-i.clauses in
-    let i = c.loop-i.i in
-    let z = c.index-lines-i.result in
-    let table : length ls ≡ 64 = search rules in
-    let h : i < length ls = omega (arith, table, c.requires.few, c.loop-i-test.true) in
-    let e = c.of.ensures in (
-      length-set cs _ _ ∙ long,
-      says_more c.of.result (get_or ls i z) e.meaning e.made e.numbered ls i cs (omega (arith, long, table, h)) (slice_get-get_or ls i z h) says,
+    let i = c.loop-line.line-index in
+    let z = c.line-item.result in (
+      search rules,
+      rw (take_more ls i z c.loop-line-test.true, c.push.ensures.items)
+          (zip_push Says _ _ (get_or ls i z) c.from.result c.loop-line.invariant.1 (subst (λ line. Says line c.from.result) c.line-item.is c.from.ensures)),
     )
 
 pub returns : goal.returns
 returns c =
     let ls = c.args.lines.now in
-    let table : length ls ≡ 64 = search rules in
-    let book : Book = record { clauses = c.loop-i.clauses; count = c.of-2.result } in
-    let all : c.loop-i.i ≡ c.of-2.result.value = omega (arith, c.loop-i-test.false, c.loop-i.auto.i-end, c.of-2.ensures) in
-    subst (λ (m : ℕ). Holds book (take m ls)) c.of-2.ensures
-    (says_all book ls (omega (arith, table, c.requires.few, c.of-2.ensures)) (subst (λ (m : ℕ). Says ls m c.loop-i.clauses) all c.loop-i.invariant.1))
+    let i = c.loop-line.line-index in
+    holds_all _ ls (subst (λ xs. AllZip Says xs c.loop-line.clauses.items) (take_all i ls c.loop-line-test.false) c.loop-line.invariant.1)

@@ -1,42 +1,54 @@
-use Rattle.std.proofs.Common.{◌≡◌, ℕ, ◌<◌, [], length, get_or, take, set, sym, refl, ap, ◌∙◌, subst, arith, length-set}
-use Rattle.std.proofs.lemmas.Option.{slice_get-get_or}
-use Rattle.book.specs.declared.count.SeatCount.{SeatCount}
-use Rattle.book.specs.Seating.{at_seat, fails_at, number_of}
-use Rattle.book.proofs.Seats.{nth_set, nth_other, found_none, found_more}
-use Rattle.book.proofs.Judged.{Judged, judged_none, judged_more, judged_fails, judged_numbers}
+use Rattle.std.proofs.Common.{rules, ◌≡◌, ◌+◌, ◌<◌, [], length, get_or, take, drop, sym, ap, ◌∙◌, arith, subst, take_all}
+use Rattle.std.proofs.Math.Seq.{drop-cons}
+use Rattle.std.proofs.Math.Numerals.{add-one}
+use Rattle.std.proofs.lemmas.List.{take_more, take_more_set, drop-set-lt}
+use Rattle.std.proofs.lemmas.List.Elements.{AllZip-push}
+use Rattle.std.specs.List.{AllZip}
+use Rattle.arrayvec.proofs.ArrayVecLemmas.{items-with_items}
+use Rattle.book.specs.Seating.{at_seat, fails_at}
+use Rattle.book.proofs.Seats.{Judged, Found, found_lost, found_standing, judged_seats}
 use Rattle.book.proofs.book.BookPanel.judge.Goals as goal
-
-pub loop-i-init : goal.loop-i-init
-loop-i-init c = (refl, refl, judged_none _ _, found_none c.args.self.now.clauses _ c.none-lost.ensures)
+use Rattle.book.proofs.book.BookPanel.judge.Goals.{then-judge, else-judge}
 
 pub loop-i-preserved : goal.loop-i-preserved
 loop-i-preserved c =
-    let (long, count, judged, found) = c.loop-i.invariant in
-    let ds = c.loop-i.self.clauses in
+    let (judged, left, found) = c.loop-i.invariant in
+    let cs = c.deref_mut-clause-items.result.now in
+    let ds = c.loop-i.clause-items in
     let i = c.loop-i.i in
-    let y = c.judge-broken.new.self in
-    let z = c.index-self-i.result in
-    let h : i < length ds = omega (arith, long, c.seated-i-end.ensures, c.loop-i-test.true) in
-    let low : i < 64 = omega (arith, c.seated-i-end.ensures, c.loop-i-test.true) in (
-      length-set ds _ _ ∙ long,
-      count,
-      judged_more c.args.sample i c.args.self.now.clauses ds y (get_or ds i z) h (slice_get-get_or ds i z h) c.judge-broken.ensures.after c.judge-broken.ensures.numbered judged,
-      found_more i low ds (set ds i y) y c.judge-broken.result (λ k lt. nth_other ds i k y (λ e. omega arith)) (nth_set ds i y h) c.judge-broken.ensures.answer
-          c.loop-i.lost c.with_lost-lost.result found c.with_lost-lost.ensures,
+    let y = c.judge.new.self in
+    let z = c.clause-item.result in
+    let h : i < length ds = search rules in
+    let g : i < length cs = search rules in
+    let low : i < 64 = search rules in
+    let long : length (take i ds) ≡ i = search rules in
+    let e = drop-cons ds i z h in
+    let f = drop-cons cs i z g in
+    let same : get_or ds i z ≡ get_or cs i z = cc in
+    let rest : drop (i + 1) ds ≡ drop (i + 1) cs = rw add-one (cc) in (
+      rw (take_more cs i z g, take_more_set ds i y h)
+          (AllZip-push (Judged c.args.sample) _ _ (get_or cs i z) y judged (subst (λ x. Judged c.args.sample x y) same (c.judge.ensures.after, c.judge.ensures.numbered))),
+      drop-set-lt (i + 1) ds i y (omega arith) ∙ rest,
+      rw (take_more_set ds i y h)
+          (elim c.if-judge.branch [
+            | then-judge w ↦ subst (Found _) (sym w.lost-is) (found_lost _ i y _ found _ _ long low (sym c.judge.ensures.answer ∙ w.if-judge.true) w.only.ensures w.union-lost.ensures)
+            | else-judge w ↦ subst (Found _) (sym w.lost-is) (found_standing _ i y _ found (sym c.judge.ensures.answer ∙ w.if-judge.false))
+          ]),
     )
 
 pub returns : goal.returns
 returns c =
-    let (long, count, judged, found) = c.loop-i.invariant in
-    let x = c.args.sample in
-    let cs = c.args.self.now.clauses in
-    let ds = c.loop-i.self.clauses in
-    let same : c.loop-i.self.count.value ≡ c.args.self.now.count.value = ap (λ (q : SeatCount). q.value) count in
-    let all : c.loop-i.i ≡ c.args.self.now.count.value = omega (arith, c.seated-i-end.ensures, c.loop-i-test.false, c.loop-i.auto.i-end) in
-    let done : Judged x c.args.self.now.count.value cs ds = subst (λ (n : ℕ). Judged x n cs ds) all judged in
+    let v = c.args.self.now.clauses in
+    let cs = c.deref_mut-clause-items.result.now in
+    let ds = c.loop-i.clause-items in
+    let i = c.loop-i.i in
+    let is = items-with_items v ds (search rules) in
+    let all : AllZip (Judged c.args.sample) v.items ds =
+    rw (← c.deref_mut-clause-items.ensures.value) (subst (AllZip (Judged c.args.sample) cs) (take_all i ds (omega arith)) (subst (λ xs. AllZip (Judged c.args.sample) xs (take i ds)) (take_all i cs (omega arith)) c.loop-i.invariant.0)) in
+    let seats = judged_seats c.args.sample v.items ds all in
     record {
-      seated = same;
-      after = λ l k. ap (λ (n : ℕ). fails_at (at_seat (take n ds) k) l) same ∙ judged_fails x _ cs ds done l k;
-      answer = λ k. found k ∙ ap (λ (n : ℕ). fails_at (at_seat (take n ds) k) []) (all ∙ sym same);
-      numbered = λ k. ap (λ (n : ℕ). number_of (at_seat (take n ds) k)) same ∙ judged_numbers x _ cs ds done k;
+      seated = search rules;
+      after = λ l k. rw is ((seats k).0 l);
+      answer = λ k. rw is (c.loop-i.invariant.2 k ∙ ap (λ xs. fails_at (at_seat xs k) []) (take_all i ds (omega arith)));
+      numbered = λ k. rw is (seats k).1;
     }

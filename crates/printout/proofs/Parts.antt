@@ -1,7 +1,12 @@
 -- A field that is written into its part of a line.
-use Rattle.std.proofs.Common.{◌≡◌, ℕ, ◌+◌, ◌≤◌, List, [], ◌∷◌, ◌++◌, length, take, sym, ap, ◌∙◌, append_assoc}
+use Rattle.std.proofs.Common.{◌≡◌, ℕ, ◌+◌, ◌≤◌, List, [], ◌∷◌, ◌++◌, length, take, sym, ap, ◌∙◌, append_assoc, arith, length-append, length-drop}
+use lib.ListN.{length-replicate}
 use borrow.Rule.Slice.PartMut.{put_mid}
 use Rattle.std.proofs.lemmas.List.{append-nil, drop_all, drop-drop, length_push, take_at}
+use Rattle.printout.specs.Lines.{field}
+
+pub length_field : (w n : ℕ) → length (field w n) ≡ w
+length_field w n = simp (length-append, length-replicate, length-drop) (omega arith)
 
 -- a part that reaches the end of its line
 pub put_end : (line part : List ℕ) (a k : ℕ) → length line ≤ a + k → put_mid a k line part ≡ take a line ++ part

@@ -4,30 +4,21 @@
 
 #![tactic(auto)]
 
-ghost use Rattle.std.specs.Prelude.{◌≡◌, ◌++◌, length, take, drop};
+ghost use Rattle.std.specs.Prelude.{◌≡◌, ◌++◌, length, take};
 ghost use Rattle.printout.specs.Lines.{field, header_line, notice_line, done_line, stop_line};
+
+use itoa::Buffer;
 
 // Fills `out` with `n`, or with its last digits where `out` is too short for all of them.
 fn write_right(out: &mut [u8], n: u64)
     ensures { out.new ≡ field (length out.old) n }
 {
+    let mut buffer = Buffer::new();
+    let digits = buffer.format(n).as_bytes();
+    let cut = digits.len().saturating_sub(out.len());
+    let blank = out.len().saturating_sub(digits.len());
     out.fill(b' ');
-    let mut rest = n;
-    for i in (0..out.len()).rev() {
-        out[i] = b'0' + (rest % 10) as u8;
-        rest /= 10;
-        // Tested after the digit, so that zero is written as one digit.
-        if rest == 0 {
-            return;
-        }
-    }
-}
-
-// Columns 1 to 4; the others stay as they are.
-fn put_term(line: &mut [u8; 17], term: u16)
-    ensures { line.new ≡ field 4 term ++ drop 4 line.old }
-{
-    write_right(&mut line[0..4], u64::from(term));
+    out[blank..].copy_from_slice(&digits[cut..]);
 }
 
 // Columns 6 to 17; the others stay as they are.
@@ -35,6 +26,14 @@ fn put_number(line: &mut [u8; 17], number: u64)
     ensures { line.new ≡ take 5 line.old ++ field 12 number }
 {
     write_right(&mut line[5..17], number);
+}
+
+// A last line: its word stands in it, and a number comes behind.
+fn last(mut line: [u8; 17], number: u64) -> [u8; 17]
+    ensures { result ≡ take 5 line ++ field 12 number }
+{
+    put_number(&mut line, number);
+    line
 }
 
 /// The line above the notices.
@@ -49,7 +48,7 @@ pub fn notice(term: u16, number: u64) -> [u8; 17]
     ensures { result ≡ notice_line term number }
 {
     let mut line = [b' '; 17];
-    put_term(&mut line, term);
+    write_right(&mut line[0..4], u64::from(term));
     put_number(&mut line, number);
     line
 }
@@ -58,18 +57,14 @@ pub fn notice(term: u16, number: u64) -> [u8; 17]
 pub fn done(count: u64) -> [u8; 17]
     ensures { result ≡ done_line count }
 {
-    let mut line = *b"DONE             ";
-    put_number(&mut line, count);
-    line
+    last(*b"DONE             ", count)
 }
 
 /// The last line of a report that breaks off: the word STOP, and the number of the refusal.
 pub fn stop(refusal: u8) -> [u8; 17]
     ensures { result ≡ stop_line refusal }
 {
-    let mut line = *b"STOP             ";
-    put_number(&mut line, u64::from(refusal));
-    line
+    last(*b"STOP             ", u64::from(refusal))
 }
 
 #[cfg(test)]

@@ -1,7 +1,6 @@
 pub mod Traces
 pub mod Counts
 pub mod Choosing
-pub mod Pages
 pub mod Terms
 pub mod Openings
 pub mod Followed

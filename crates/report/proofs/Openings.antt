@@ -23,8 +23,8 @@ use Rattle.report.specs.Stories.{BookStory, term_at, Opens}
 -- a book keeps a panel's laws
 pub book_lawful : (b : Book) → Lawful (book_fails b) (seats_of b)
 book_lawful b = record {
-  size = (b.count.from, b.count.upto);
-  within = λ l k e. seat_within (seats_of b) b.clauses l k e;
+  size = (b.some, b.few);
+  within = λ l k e. seat_within (clauses_of b) l k e;
   lasting = λ l h k e. at_lasting (at_seat (clauses_of b) k) l h e;
 }
 

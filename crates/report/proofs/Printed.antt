@@ -21,7 +21,7 @@ use Rattle.report.proofs.Openings.{book_lawful, by_lines}
 use Rattle.report.proofs.Followed.{watched}
 
 -- lines behind lines
-pub printed-++ : (xs ys : List (List ℕ)) → printed (xs ++ ys) ≡ printed xs ++ printed ys
+printed-++ : (xs ys : List (List ℕ)) → printed (xs ++ ys) ≡ printed xs ++ printed ys
 printed-++ [] ys = refl
 printed-++ (x ∷ xs) ys = ap (λ (l : List ℕ). x ++ (10 ∷ l)) (printed-++ xs ys) ∙ sym (append_assoc x (10 ∷ printed xs) (printed ys))
 

@@ -10,12 +10,13 @@ pub fn report(text: &[u8], pieces: &[&[u8]], end: Ending) -> Page
     ensures reported { Reported text.now (words pieces.now) end (bytes_on result) }
     ensures only { OneReport }
 {
-    let mut run = match Run::new(text) {
-        Ok(run) => run,
-        Err(fault) => return Page::stopped(fault.refusal()),
-    };
-    for piece in pieces {
-        run.read(piece);
+    match Run::new(text) {
+        Ok(mut run) => {
+            for piece in pieces {
+                run.read(piece);
+            }
+            run.page(end)
+        }
+        Err(fault) => Page::stopped(fault.refusal()),
     }
-    run.page(end)
 }

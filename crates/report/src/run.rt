@@ -1,3 +1,7 @@
+ghost use Rattle.std.specs.Prelude.{◌≡◌};
+ghost use Rattle.stream.specs.Traces.{fed_by};
+ghost use Rattle.report.specs.Runs.{WhereFollows};
+
 use crate::opening::ClauseNumbers;
 use book::Book;
 use stream::{Assembler, Refusal};
@@ -21,4 +25,13 @@ pub struct Run {
     pub(crate) held: Assembler,
     /// Why a word was refused. What follows it is passed over.
     pub(crate) refused: Option<Refusal>,
+}
+
+impl Run {
+    /// The refusal of a word, if one was refused.
+    pub fn refused(&self) -> Option<Refusal>
+        ensures { WhereFollows self.now (λ text bytes. result ≡ (fed_by bytes).refused) }
+    {
+        self.refused
+    }
 }

@@ -1,8 +1,8 @@
-ghost use Rattle.std.specs.Prelude.{◌≡◌, ℕ, List, [], ◌∷◌, ◌++◌, length, MatchResult};
+ghost use Rattle.std.specs.Prelude.{◌≡◌, [], ◌∷◌, length, MatchResult};
 ghost use Rattle.grammar.specs.Books.{BookFault};
 ghost use Rattle.stream.specs.Traces.{fed_by};
 ghost use Rattle.report.specs.Reports.{stop_by, last_line, Reported};
-ghost use Rattle.report.specs.Runs.{Follows, bytes_on};
+ghost use Rattle.report.specs.Runs.{Follows, WhereFollows, GoesOn, bytes_on};
 
 use crate::opening::open;
 use crate::page::Page;
@@ -27,7 +27,7 @@ impl Run {
 
     /// Goes on with the bytes that follow.
     pub fn read(&mut self, bytes: &[u8])
-        ensures { (text before : List ℕ) → Follows text before self.old → Follows text (before ++ bytes.now) self.new }
+        ensures { GoesOn self.old bytes.now self.new }
     {
         for byte in bytes {
             self.push(*byte);
@@ -35,7 +35,7 @@ impl Run {
     }
 
     fn push(&mut self, byte: u8)
-        ensures { (text before : List ℕ) → Follows text before self.old → Follows text (before ++ byte ∷ []) self.new }
+        ensures { GoesOn self.old (byte ∷ []) self.new }
     {
         if self.refused.is_some() {
             return;
@@ -46,30 +46,20 @@ impl Run {
         }
     }
 
-    /// The refusal of a word, if one was refused.
-    pub fn refused(&self) -> Option<Refusal>
-        ensures { (text bytes : List ℕ) → Follows text bytes self.now → result ≡ (fed_by bytes).refused }
-    {
-        let Run { refused, .. } = self;
-        *refused
-    }
-
     /// Why the run stops, if it does, where the reading of its trace ends so.
     pub fn stop(&self, end: Ending) -> Option<Refusal>
-        ensures { (text bytes : List ℕ) → Follows text bytes self.now → result ≡ stop_by bytes end }
+        ensures { WhereFollows self.now (λ text bytes. result ≡ stop_by bytes end) }
     {
-        if self.refused.is_some() {
-            return self.refused;
-        }
-        match end {
+        let at_end = match end {
             Ending::Complete => self.held.finish().err(),
             Ending::Unreadable => Some(Refusal::UnreadableFile),
-        }
+        };
+        self.refused.or(at_end)
     }
 
     /// The last line, where the reading of the trace ends so.
     fn last_line(&self, end: Ending) -> [u8; 17]
-        ensures { (text bytes : List ℕ) → Follows text bytes self.now → result ≡ last_line (stop_by bytes end) (length (fed_by bytes).samples) }
+        ensures { WhereFollows self.now (λ text bytes. result ≡ last_line (stop_by bytes end) (length (fed_by bytes).samples)) }
     {
         match self.stop(end) {
             Some(refusal) => printout::stop(refusal.number()),
@@ -80,8 +70,9 @@ impl Run {
 
     /// The report, where the reading of the trace ends so.
     pub fn page(&self, end: Ending) -> Page
-        ensures { (text bytes : List ℕ) → Follows text bytes self.now → Reported text bytes end (bytes_on result) }
+        ensures { WhereFollows self.now (λ text bytes. Reported text bytes end (bytes_on result)) }
     {
+        // room for every seat: `list` writes into a slice that it is lent
         let mut notices = [Notice { seat: 0, number: 0 }; 64];
         let (written, _) = self.watch.list(&mut notices);
         let mut page = Page::new();

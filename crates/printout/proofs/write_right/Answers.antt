@@ -1,16 +1,21 @@
-use Rattle.std.proofs.Common.{length, ap, ◌∙◌, arith}
-use Rattle.printout.specs.Lines.{field}
-use Rattle.printout.proofs.Turns.{first, again, last, ends}
+use Rattle.std.proofs.Common.{◌≡◌, ◌-◌, ◌++◌, length, take, drop, replicate, ap, ◌∙◌, arith, length-drop}
+use Rattle.std.proofs.lemmas.List.{take_all, take-replicate}
+use Rattle.printout.proofs.Parts.{put_end}
 use Rattle.printout.proofs.write_right.Goals as goal
 
-pub loop-i-init : goal.loop-i-init
-loop-i-init c = first c.fill.new.self (length c.args.out.now) c.args.n (omega arith) (c.fill.ensures.after (λ y e. e))
-
-pub loop-i-preserved : goal.loop-i-preserved
-loop-i-preserved c = again c.loop-i.out c.loop-i.i c.loop-i.rest _ c.loop-i-test.true (omega arith) c.if-rest-eq0.false c.loop-i.invariant
-
+-- the blanks stay of what was filled, and the digits that fit lie behind them
 pub returns : goal.returns
-returns c = last c.loop-i.out c.loop-i.i c.loop-i.rest _ c.loop-i-test.false c.loop-i.invariant ∙ ap (λ w. field w c.args.n) c.fill.ensures.len
-
-pub returns-then-rest-eq0 : goal.returns-then-rest-eq0
-returns-then-rest-eq0 c = ends c.loop-i.out c.loop-i.i c.loop-i.rest _ c.loop-i-test.true (omega arith) c.if-rest-eq0.true c.loop-i.invariant ∙ ap (λ w. field w c.args.n) c.fill.ensures.len
+returns c =
+    let w = length c.args.out.now in
+    let digits = c.as_bytes-digits.result.now in
+    let blank = c.saturating_sub-blank.result in
+    let cut = c.saturating_sub-cut.result in
+    let spaces : c.fill.new.self ≡ replicate w 32 = c.fill.ensures.after (λ y e. e) in
+    let blanks : take blank (replicate w 32) ≡ replicate blank 32 = take-replicate blank w 32 (omega (arith, c.saturating_sub-blank.ensures)) in
+    let last = take_all (length digits - cut) (drop cut digits) (simp length-drop (omega arith)) in
+    let whole : drop cut digits ≡ drop (length digits - w) digits = ap (λ k. drop k digits) c.saturating_sub-cut.ensures in
+    let narrow = ap (λ k. replicate k 32 ++ drop (length digits - w) digits) c.saturating_sub-blank.ensures in
+    put_end c.fill.new.self c.copy_from_slice.new.self blank _ (omega arith)
+    ∙ (λ i. take blank (spaces i) ++ (c.copy_from_slice.ensures.after ∙ last ∙ whole) i)
+    ∙ ap (λ l. l ++ drop (length digits - w) digits) blanks ∙ narrow
+    ∙ ap (λ l. replicate (w - length l) 32 ++ drop (length l - w) l) (c.as_bytes-digits.ensures.value ∙ c.format.ensures.text)

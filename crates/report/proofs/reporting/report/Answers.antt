@@ -1,4 +1,4 @@
-use Rattle.std.proofs.Common.{◌≡◌, ℕ, ◌+◌, List, [], ◌++◌, get_or, drop, sym, refl, ap, ◌∙◌, subst, Bor}
+use Rattle.std.proofs.Common.{◌≡◌, ℕ, ◌+◌, List, [], ◌++◌, get_or, drop, sym, ap, ◌∙◌, subst, Bor}
 use Rattle.std.proofs.lemmas.List.{append_assoc, append-nil, drop_all, drop_more}
 use Rattle.watch.specs.Pieces.{words}
 use Rattle.report.specs.Reports.{stop_page, faulty, Reported}
@@ -9,9 +9,6 @@ use Rattle.report.proofs.reporting.report.Goals as goal
 pub returns-in-Err : goal.returns-in-Err
 returns-in-Err c =
     record { reported = faulty c.in-Err.fault c.in-Err.ensures (c.stopped.ensures ∙ ap stop_page c.refusal.ensures); only = one_report }
-
-pub loop-piece-init : goal.loop-piece-init
-loop-piece-init c = ([], c.in-Ok.ensures, refl)
 
 pub loop-piece-preserved : goal.loop-piece-preserved
 loop-piece-preserved c =
@@ -26,8 +23,8 @@ loop-piece-preserved c =
           ∙ c.loop-piece.invariant.2,
     )
 
-pub returns : goal.returns
-returns c =
+pub returns-after-loop-piece : goal.returns-after-loop-piece
+returns-after-loop-piece c =
     let before = c.loop-piece.invariant.0 in
     let all : before ≡ words c.args.pieces.now =
     sym (append-nil before)

@@ -8,9 +8,7 @@ mod files;
 #[cfg(test)]
 mod tests;
 
-use crate::expected::expected_at;
-use crate::files::{Text, follow_file};
-use grammar::Fault;
+use crate::files::Input;
 use report::{Page, Run};
 use std::io::Write;
 use std::process::ExitCode;
@@ -46,51 +44,27 @@ fn print(rt: &HostRuntime, page: &Page) -> io::Result<()> {
     rt.stdout().write_all(page.bytes())
 }
 
-/// What a refusal means, on standard error, and status 1.
-fn explain(rt: &HostRuntime, path: &str, refusal: Refusal) -> anyhow::Result<ExitCode> {
-    let number = refusal.number();
-    eprintln!(rt; "terms: {path}: refusal {number}: {refusal}")?;
-    Ok(ExitCode::FAILURE)
-}
-
-/// The same for a fault of the book, with its line and column, both from 1, and what was expected there.
-fn explain_fault(
-    rt: &HostRuntime,
-    path: &str,
-    text: &[u8],
-    fault: Fault,
-) -> anyhow::Result<ExitCode> {
-    let refusal = fault.refusal();
-    let number = refusal.number();
-    let (column, expected) = expected_at(text, fault);
-    let line = fault.line();
-    eprintln!(rt;
-        "terms: {path}, line {line}, column {column}: refusal {number}: {refusal}; {expected}"
-    )?;
-    Ok(ExitCode::FAILURE)
-}
-
 /// Runs the trace through the watch of the book, prints the report, and says what a STOP means.
-fn watch_file(rt: &HostRuntime, path: &str, mut run: Run) -> anyhow::Result<ExitCode> {
-    let end = follow_file(rt, path, &mut run);
-    print(rt, &run.page(end))?;
+fn watch_trace(trace: Input, mut run: Run) -> anyhow::Result<ExitCode> {
+    let end = trace.follow(&mut run);
+    print(trace.rt, &run.page(end))?;
     match run.stop(end) {
         None => Ok(ExitCode::SUCCESS),
-        Some(refusal) => explain(rt, path, refusal),
+        Some(refusal) => trace.explain(refusal),
     }
 }
 
-fn watch_files(rt: &HostRuntime, terms: &str, trace: &str) -> anyhow::Result<ExitCode> {
-    let mut text = Text::new();
-    if let Err(refusal) = text.read_file(rt, terms) {
-        print(rt, &Page::stopped(refusal))?;
-        return explain(rt, terms, refusal);
-    }
-    match Run::new(text.bytes()) {
-        Ok(run) => watch_file(rt, trace, run),
+fn watch_files(terms: Input, trace: Input) -> anyhow::Result<ExitCode> {
+    let Ok(text) = terms.text() else {
+        let refusal = Refusal::UnreadableFile;
+        print(terms.rt, &Page::stopped(refusal))?;
+        return terms.explain(refusal);
+    };
+    match Run::new(text.as_slice()) {
+        Ok(run) => watch_trace(trace, run),
         Err(fault) => {
-            print(rt, &Page::stopped(fault.refusal()))?;
-            explain_fault(rt, terms, text.bytes(), fault)
+            print(terms.rt, &Page::stopped(fault.refusal()))?;
+            terms.explain_fault(text.as_slice(), fault)
         }
     }
 }
@@ -98,19 +72,23 @@ fn watch_files(rt: &HostRuntime, terms: &str, trace: &str) -> anyhow::Result<Exi
 fn main(rt: HostRuntime) -> anyhow::Result<ExitCode> {
     let mut args = env::args(&rt)?;
     let _program = args.next();
-    let Some(terms) = args.next() else {
-        return watch_files(&rt, TERMS, TRACE);
-    };
-    if terms.as_str() == "--help" {
+    let terms = args.next();
+    if terms.as_deref() == Some("--help") {
         print!(rt; "{HELP}")?;
         return Ok(ExitCode::SUCCESS);
     }
-    let Some(trace) = args.next() else {
-        return watch_files(&rt, terms.as_str(), TRACE);
-    };
+    let trace = args.next();
     if args.next().is_some() {
         eprint!(rt; "{HELP}")?;
         return Ok(ExitCode::FAILURE);
     }
-    watch_files(&rt, terms.as_str(), trace.as_str())
+    let terms = Input {
+        rt: &rt,
+        path: terms.as_deref().unwrap_or(TERMS),
+    };
+    let trace = Input {
+        rt: &rt,
+        path: trace.as_deref().unwrap_or(TRACE),
+    };
+    watch_files(terms, trace)
 }

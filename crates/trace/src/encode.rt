@@ -3,95 +3,87 @@ use crate::lines::Encoder;
 use std::fs::File;
 use std::io;
 use std::io::{BufReader, BufWriter, Read, Write};
-use std::process::ExitCode;
+use thiserror::Error;
 
 /// Why no trace was made.
-#[derive(Clone, Copy)]
-pub enum Failure {
-    Unreadable,
-    Unwritable,
+#[derive(Clone, Copy, Debug, Error)]
+pub enum Failure<'a> {
+    #[error("{0}: the file cannot be read")]
+    Unreadable(&'a str),
+    #[error("{0}: the file cannot be written")]
+    Unwritable(&'a str),
     /// The lines are to be overwritten by their trace.
-    OneFile,
+    #[error("{0}: the lines would be overwritten")]
+    OneFile(&'a str),
     /// A fault in a line, by its number from 1.
-    Text(u64, Fault),
+    #[error("{lines}, line {line}, column {column}: {fault}", column = .fault.column())]
+    Text {
+        lines: &'a str,
+        line: u64,
+        fault: Fault,
+    },
 }
 
-/// Makes the trace of the lines. They are read twice: no trace is touched before every line is known to be good.
-pub(crate) fn encode_file(rt: &HostRuntime, lines: &str, trace: &str) -> anyhow::Result<ExitCode> {
-    match make_trace(rt, lines, trace) {
-        Ok(()) => Ok(ExitCode::SUCCESS),
-        Err(failure) => explain(rt, lines, trace, failure),
-    }
+/// The file of the lines, and that of the trace to be made of them.
+#[derive(Clone, Copy)]
+pub(crate) struct Encoding<'a> {
+    pub(crate) lines: &'a str,
+    pub(crate) trace: &'a str,
 }
 
-fn make_trace(rt: &HostRuntime, lines: &str, trace: &str) -> Result<(), Failure> {
-    if lines == trace {
-        return Err(Failure::OneFile);
+impl<'a> Encoding<'a> {
+    /// Makes the trace of the lines. They are read twice: no trace is touched before every line is known to be good.
+    pub(crate) fn make_trace(self, rt: &HostRuntime) -> Result<(), Failure<'a>> {
+        if self.lines == self.trace {
+            return Err(Failure::OneFile(self.trace));
+        }
+        self.encode_lines(self.open_lines(rt)?, &mut io::sink())?;
+        let source = self.open_lines(rt)?;
+        let mut out = self.create_trace(rt).map_err(|_| self.unwritable())?;
+        self.encode_lines(source, &mut out)
     }
-    encode_lines(open(rt, lines)?, &mut io::sink())?;
-    let source = open(rt, lines)?;
-    let Ok(target) = File::create(rt, trace) else {
-        return Err(Failure::Unwritable);
-    };
-    let Ok(mut out) = BufWriter::new(rt.alloc(), target) else {
-        return Err(Failure::Unwritable);
-    };
-    encode_lines(source, &mut out)
-}
 
-fn open(rt: &HostRuntime, path: &str) -> Result<BufReader<File>, Failure> {
-    let Ok(file) = File::open(rt, path) else {
-        return Err(Failure::Unreadable);
-    };
-    match BufReader::new(rt.alloc(), file) {
-        Ok(source) => Ok(source),
-        Err(_) => Err(Failure::Unreadable),
+    fn open_lines(self, rt: &HostRuntime) -> Result<BufReader<File>, Failure<'a>> {
+        File::open(rt, self.lines)
+            .and_then(|file| BufReader::new(rt.alloc(), file))
+            .map_err(|_| Failure::Unreadable(self.lines))
     }
-}
 
-fn encode_lines(source: BufReader<File>, out: &mut impl Write) -> Result<(), Failure> {
-    let mut encoder = Encoder::new();
-    for byte in source.bytes() {
-        let Ok(byte) = byte else {
-            return Err(Failure::Unreadable);
-        };
-        encode_byte(&mut encoder, byte, out)?;
+    fn create_trace(self, rt: &HostRuntime) -> io::Result<BufWriter<File>> {
+        BufWriter::new(rt.alloc(), File::create(rt, self.trace)?)
     }
-    if let Err(fault) = encoder.finish() {
-        return Err(Failure::Text(encoder.line_number(), fault));
-    }
-    match out.flush() {
-        Ok(()) => Ok(()),
-        Err(_) => Err(Failure::Unwritable),
-    }
-}
 
-fn encode_byte(encoder: &mut Encoder, byte: u8, out: &mut impl Write) -> Result<(), Failure> {
-    let mut bytes = [0; 24];
-    match encoder.push(byte, &mut bytes) {
-        Ok(count) => match out.write_all(&bytes[0..count]) {
-            Ok(()) => Ok(()),
-            Err(_) => Err(Failure::Unwritable),
-        },
-        Err(fault) => Err(Failure::Text(encoder.line_number(), fault)),
+    fn encode_lines(
+        self,
+        source: BufReader<File>,
+        out: &mut impl Write,
+    ) -> Result<(), Failure<'a>> {
+        let mut encoder = Encoder::new();
+        for byte in source.bytes() {
+            let byte = byte.map_err(|_| Failure::Unreadable(self.lines))?;
+            let bytes = encoder
+                .push(byte)
+                .map_err(|fault| self.fault_in(&encoder, fault))?;
+            if let Some(bytes) = bytes {
+                out.write_all(&bytes).map_err(|_| self.unwritable())?;
+            }
+        }
+        encoder
+            .finish()
+            .map_err(|fault| self.fault_in(&encoder, fault))?;
+        out.flush().map_err(|_| self.unwritable())
     }
-}
 
-/// Says on standard error what failed, and where; ends with status 1.
-fn explain(
-    rt: &HostRuntime,
-    lines: &str,
-    trace: &str,
-    failure: Failure,
-) -> anyhow::Result<ExitCode> {
-    match failure {
-        Failure::Unreadable => eprintln!(rt; "trace: {lines}: the file cannot be read")?,
-        Failure::Unwritable => eprintln!(rt; "trace: {trace}: the file cannot be written")?,
-        Failure::OneFile => eprintln!(rt; "trace: {trace}: the lines would be overwritten")?,
-        Failure::Text(line, fault) => {
-            let column = fault.column();
-            eprintln!(rt; "trace: {lines}, line {line}, column {column}: {fault}")?
+    fn unwritable(self) -> Failure<'a> {
+        Failure::Unwritable(self.trace)
+    }
+
+    /// A fault in the line that the encoder is at.
+    fn fault_in(self, encoder: &Encoder, fault: Fault) -> Failure<'a> {
+        Failure::Text {
+            lines: self.lines,
+            line: encoder.line_number(),
+            fault,
         }
     }
-    Ok(ExitCode::FAILURE)
 }

@@ -1,33 +1,27 @@
-ghost use Rattle.std.specs.Prelude.{◌≤◌, IfOk};
-
 use crate::fault::Fault;
-use rows::encode_row;
-
-/// Bytes to keep of a line: one more than the longest row has, so that a longer line is no row either.
-const LINE_ROOM: usize = 36;
+use arrayvec::ArrayVec;
+use rows::{SampleBytes, encode_row};
 
 /// The line that stands for the end of the stream.
-pub(crate) const END_LINE: &[u8] = b"end";
+pub(crate) const END_LINE: &str = "end";
 
 /// The word that ends a stream.
 const END_WORD: [u8; 4] = [0xC0, 0, 0, 0];
 
 /// Lines on their way to bytes.
-#[derive(Clone, Copy)]
+#[derive(Drop)]
 pub struct Encoder {
-    line: [u8; LINE_ROOM],
-    len: usize,
+    /// The line so far, as far as it is kept: one byte more than the longest row has, so that a longer line is no row either.
+    line: ArrayVec<u8, 36>,
     /// The number of the line, from 1.
     number: u64,
     ended: bool,
-    ghost within: { len ≤ 36 },
 }
 
 impl Encoder {
     pub(crate) fn new() -> Encoder {
         Encoder {
-            line: [0; LINE_ROOM],
-            len: 0,
+            line: ArrayVec::new(),
             number: 1,
             ended: false,
         }
@@ -37,49 +31,35 @@ impl Encoder {
         self.number
     }
 
-    /// Takes one byte more. Where it ends a line, the bytes of that line are written to `out`, and it answers how many they are.
-    pub(crate) fn push(&mut self, byte: u8, out: &mut [u8; 24]) -> Result<usize, Fault>
-        ensures { IfOk result (λ n. n ≤ 24) }
-    {
+    /// Takes one byte more. Where it ends a line, it answers the bytes of that line.
+    pub(crate) fn push(&mut self, byte: u8) -> Result<Option<SampleBytes>, Fault> {
         if self.ended {
             return Err(Fault::BehindEnd);
         }
         if byte != b'\n' {
-            self.keep(byte);
-            return Ok(0);
+            let _ = self.line.try_push(byte);
+            return Ok(None);
         }
-        let count = self.end_line(out)?;
-        self.len = 0;
+        let bytes = self.end_line()?;
+        self.line.clear();
         self.number = self.number.saturating_add(1);
-        Ok(count)
+        Ok(Some(bytes))
     }
 
-    fn keep(&mut self, byte: u8) {
-        if self.len < LINE_ROOM {
-            self.line[self.len] = byte;
-            self.len += 1;
+    fn end_line(&mut self) -> Result<SampleBytes, Fault> {
+        if self.line.as_slice() != END_LINE.as_bytes() {
+            return Ok(encode_row(&self.line)?);
         }
-    }
-
-    fn end_line(&mut self, out: &mut [u8; 24]) -> Result<usize, Fault>
-        ensures { IfOk result (λ n. n ≤ 24) }
-    {
-        let line = &self.line[0..self.len];
-        if line == END_LINE {
-            self.ended = true;
-            out[0..4].copy_from_slice(&END_WORD);
-            return Ok(4);
-        }
-        match encode_row(line, out) {
-            Ok(count) => Ok(count),
-            Err(slip) => Err(Fault::Slip(slip)),
-        }
+        self.ended = true;
+        let mut bytes = SampleBytes::new();
+        bytes.try_extend_from_slice(&END_WORD).unwrap();
+        Ok(bytes)
     }
 
     /// Refuses if the last line is not ended.
     pub(crate) fn finish(&self) -> Result<(), Fault> {
-        if self.len > 0 {
-            return Err(Fault::OpenLine(self.len));
+        if !self.line.is_empty() {
+            return Err(Fault::OpenLine(self.line.len()));
         }
         Ok(())
     }

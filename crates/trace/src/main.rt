@@ -10,9 +10,9 @@ mod fault;
 mod lines;
 
 use crate::decode::decode_file;
-use crate::encode::encode_file;
+use crate::encode::Encoding;
 use std::process::ExitCode;
-use std::{env, io};
+use std::{env, fmt, io};
 
 fn print_usage(rt: &HostRuntime) -> io::Result<()> {
     rt.println(
@@ -29,6 +29,18 @@ fn misused(rt: &HostRuntime) -> anyhow::Result<ExitCode> {
     Ok(ExitCode::FAILURE)
 }
 
+/// Says on standard error what stopped the work, if something did, and gives the program's status.
+fn ended<E: fmt::Display + Drop>(
+    rt: &HostRuntime,
+    work: Result<(), E>,
+) -> anyhow::Result<ExitCode> {
+    let Err(reason) = work else {
+        return Ok(ExitCode::SUCCESS);
+    };
+    eprintln!(rt; "trace: {reason}")?;
+    Ok(ExitCode::FAILURE)
+}
+
 /// Does what the words behind the program's name ask for.
 fn obey(
     rt: &HostRuntime,
@@ -37,7 +49,9 @@ fn obey(
     second: Option<&str>,
 ) -> anyhow::Result<ExitCode> {
     match (verb, first, second) {
-        ("encode", Some(lines), Some(trace)) => encode_file(rt, lines, trace),
+        ("encode", Some(lines), Some(trace)) => {
+            ended(rt, Encoding { lines, trace }.make_trace(rt))
+        }
         ("decode", Some(trace), None) => decode_file(rt, trace),
         ("--help", None, None) => {
             print_usage(rt)?;

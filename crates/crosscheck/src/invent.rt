@@ -1,7 +1,14 @@
 //! What a story is made of: a book's rows and a stream's words, at random, but so that samples fall near the bounds of the rules.
-use crate::model::{Bare, Branch, Row, Rule, Sign};
+use crate::model::{Branch, Row, Rule, Sign};
 use crate::random::Random;
+use crate::refusal::Refusal;
 use std::alloc::{AllocError, Global};
+
+/// How many rows a book has at most.
+pub(crate) const MOST_ROWS: usize = 64;
+
+/// How many bytes a text has at most.
+const LONGEST_TEXT: usize = 8192;
 
 const HIGHEST_LIMIT: u32 = 999_999_999;
 
@@ -14,56 +21,68 @@ const UNUSED: u32 = 0x8000_0000;
 
 const END: u32 = 0xC000_0000;
 
-/// The few letters and the time limit that most of a story turns on.
-#[derive(Clone, Copy)]
-pub(crate) struct Theme {
+/// Invents one story.
+#[derive(Drop)]
+pub(crate) struct Inventor {
+    heap: Global,
+    pub(crate) random: Random,
+    /// The few letters and the time limit that most of the story turns on.
     letters: [u8; 3],
     limit: u32,
 }
 
-/// The bit of any letter.
-fn letter(random: &mut Random) -> u8 {
-    random.upto(23) as u8
+/// A text that is no book, made from one that is, and its fault.
+#[derive(Drop)]
+pub(crate) struct Spoiled {
+    pub(crate) text: String,
+    pub(crate) fault: Refusal,
 }
 
-impl Theme {
-    pub(crate) fn new(random: &mut Random) -> Theme {
-        let letters = [letter(random), letter(random), letter(random)];
+impl Inventor {
+    pub(crate) fn new(heap: Global, story: u32) -> Inventor {
+        let mut random = Random::new(u64::from(story));
+        let letters = [random.letter(), random.letter(), random.letter()];
         let limit = match random.upto(9) {
             0 => HIGHEST_LIMIT,
             1 => random.upto(HIGHEST_LIMIT),
             2 => 0,
             _ => random.upto(7),
         };
-        Theme { letters, limit }
+        Inventor {
+            heap,
+            random,
+            letters,
+            limit,
+        }
     }
 
-    fn sign(&self, random: &mut Random) -> Sign {
-        let bare = match random.upto(8) {
-            0 => Bare::Every,
-            1 | 2 => Bare::Letter(self.letters[2]),
-            3 | 4 | 5 => Bare::Letter(self.letters[1]),
-            _ => Bare::Letter(self.letters[0]),
+    fn sign(&mut self) -> Sign {
+        let [often, sometimes, seldom] = self.letters;
+        let letter = match self.random.upto(8) {
+            0 => None,
+            1 | 2 => Some(seldom),
+            3 | 4 | 5 => Some(sometimes),
+            _ => Some(often),
         };
-        let opposite = random.once_in(3);
-        Sign { bare, opposite }
+        let opposite = self.random.once_in(3);
+        Sign { letter, opposite }
     }
 
-    fn limit(&self, random: &mut Random) -> u32 {
-        match random.upto(9) {
+    fn limit(&mut self) -> u32 {
+        match self.random.upto(9) {
             0 => 0,
-            1 => random.upto(9),
+            1 => self.random.upto(9),
             2 => HIGHEST_LIMIT,
             3 => self.limit.saturating_add(1).min(HIGHEST_LIMIT),
             _ => self.limit,
         }
     }
 
-    fn rule(&self, random: &mut Random) -> Rule {
-        let p = self.sign(random);
-        let s = self.sign(random);
-        let limit = self.limit(random);
-        match random.upto(6) {
+    fn rule(&mut self) -> Rule {
+        let p = self.sign();
+        let s = self.sign();
+        let limit = self.limit();
+        match self.random.upto(6) {
             0 => Rule::Never { p },
             1 => Rule::NeverFrom { p, limit },
             2 => Rule::HoldLeast { p, limit },
@@ -74,24 +93,16 @@ impl Theme {
         }
     }
 
-    fn branch(&self, random: &mut Random) -> Branch {
-        let after = if random.once_in(3) {
-            Some(self.sign(random))
-        } else {
-            None
-        };
-        let rule = self.rule(random);
+    fn branch(&mut self) -> Branch {
+        let after = self.random.once_in(3).then(|| self.sign());
+        let rule = self.rule();
         Branch { after, rule }
     }
 
-    fn row(&self, random: &mut Random, number: u16) -> Row {
-        let first = self.branch(random);
-        let second = if random.once_in(3) {
-            Some(self.branch(random))
-        } else {
-            None
-        };
-        let allow = allowance(random);
+    fn row(&mut self, number: u16) -> Row {
+        let first = self.branch();
+        let second = self.random.once_in(3).then(|| self.branch());
+        let allow = self.allowance();
         Row {
             number,
             first,
@@ -100,155 +111,181 @@ impl Theme {
         }
     }
 
+    fn allowance(&mut self) -> Option<u8> {
+        match self.random.upto(19) {
+            0 => Some(0),
+            1..=4 => Some(1),
+            5..=7 => Some(2),
+            8 => Some(3),
+            9 => Some(255),
+            _ => None,
+        }
+    }
+
     /// One to six rows, or seldom up to 64, with clause numbers that rise to 9,990 at most.
-    pub(crate) fn rows(&self, random: &mut Random, heap: Global) -> Result<Vec<Row>, AllocError> {
-        let mut rows = Vec::new(heap);
-        let (count, step) = match random.upto(99) {
+    pub(crate) fn rows(&mut self) -> Result<Vec<Row>, AllocError> {
+        let mut rows = Vec::new(self.heap);
+        let (count, step) = match self.random.upto(99) {
             0 => (64, 155),
-            1 => (1 + random.upto(63), 155),
-            _ => (1 + random.upto(5), 1664),
+            1 => (1 + self.random.upto(63), 155),
+            _ => (1 + self.random.upto(5), 1664),
         };
         let mut number: u16 = 0;
         for _ in 0..count {
-            number = number.saturating_add(1 + random.upto(step) as u16);
-            rows.push(self.row(random, number))?;
+            number = number.saturating_add(1 + self.random.upto(step) as u16);
+            rows.push(self.row(number))?;
         }
         Ok(rows)
     }
 
+    /// A text that is no book, made from one that has so many rows.
+    pub(crate) fn spoiled(&mut self, book: &str, rows: usize) -> Result<Spoiled, AllocError> {
+        let heap = self.heap;
+        let (text, fault) = match self.random.upto(6) {
+            0 => (String::new(heap), Refusal::NoText),
+            1 => (format!(in heap; "{book:>8193}")?, Refusal::LongText),
+            2 => (format!(in heap; "{book}10000 never a")?, Refusal::OpenLine),
+            3 => (
+                format!(in heap; "{book}9999 never y\n")?,
+                Refusal::StrayWord,
+            ),
+            4 => (
+                format!(in heap; "{book}9999 hold a least\n")?,
+                Refusal::MissingWord,
+            ),
+            5 => (format!(in heap; "{book}\n")?, Refusal::NoNumber),
+            _ => (format!(in heap; "{book}{book}")?, Refusal::NotRising),
+        };
+        // the faults of the text as a whole come first, and a row too many before what it says
+        let fault = match fault {
+            _ if text.len() > LONGEST_TEXT => Refusal::LongText,
+            _ if fault > Refusal::OpenLine && rows == MOST_ROWS => Refusal::ManyRows,
+            _ => fault,
+        };
+        Ok(Spoiled { text, fault })
+    }
+
     /// A gap near the limit, or none, or one that is very long.
-    fn gap(&self, random: &mut Random) -> u32 {
-        match random.upto(15) {
+    fn gap(&mut self) -> u32 {
+        match self.random.upto(15) {
             0 | 1 => 0,
             2 => 1,
             3 | 4 => self.limit,
             5 | 6 => self.limit.saturating_add(1),
             7 | 8 => self.limit.saturating_sub(1),
             9 => self.limit / 2,
-            10 => long_gap(random),
-            _ => random.upto(self.limit),
+            10 => self.long_gap(),
+            _ => self.random.upto(self.limit),
         }
     }
 
-    fn letters(&self, random: &mut Random) -> u32 {
+    fn long_gap(&mut self) -> u32 {
+        match self.random.upto(4) {
+            0 => FULL,
+            1 => FULL + 1,
+            2 => u32::MAX,
+            3 => u32::MAX - 1,
+            _ => self.random.upto(u32::MAX),
+        }
+    }
+
+    fn letters(&mut self) -> u32 {
         let mut letters: u32 = 0;
         for bit in self.letters {
-            if random.once_in(2) {
+            if self.random.once_in(2) {
                 letters |= 1u32.wrapping_shl(u32::from(bit));
             }
         }
-        if random.once_in(8) {
-            letters |= 1u32.wrapping_shl(random.upto(23));
+        if self.random.once_in(8) {
+            letters |= 1u32.wrapping_shl(self.random.upto(23));
         }
         letters
     }
 
-    fn push_sample(&self, random: &mut Random, words: &mut Vec<u32>) -> Result<(), AllocError> {
-        push_gap(self.gap(random), random, words)?;
-        words.push(SAMPLE | self.letters(random))?;
+    /// The words of a stream, sound or not.
+    pub(crate) fn words(&mut self) -> Result<Vec<u32>, AllocError> {
+        let mut words = Vec::new(self.heap);
+        for _ in 0..4 + self.random.upto(14) {
+            if self.random.once_in(6) {
+                self.push_damage(&mut words)?;
+            } else {
+                self.push_sample(&mut words)?;
+            }
+        }
+        if self.random.once_in(2) {
+            words.push(END)?;
+            self.push_sample(&mut words)?;
+            self.push_damage(&mut words)?;
+        }
+        Ok(words)
+    }
+
+    fn push_sample(&mut self, words: &mut Vec<u32>) -> Result<(), AllocError> {
+        let gap = self.gap();
+        self.push_gap(gap, words)?;
+        words.push(SAMPLE | self.letters())?;
         Ok(())
     }
 
     /// Words of which one is to be turned away, at least mostly.
-    fn push_damage(&self, random: &mut Random, words: &mut Vec<u32>) -> Result<(), AllocError> {
-        let load = random.upto(FULL);
-        match random.upto(5) {
+    fn push_damage(&mut self, words: &mut Vec<u32>) -> Result<(), AllocError> {
+        let load = self.random.upto(FULL);
+        match self.random.upto(5) {
             0 => words.push(UNUSED | load)?,
             1 => {
-                push_gap(self.gap(random), random, words)?;
-                words.push(SAMPLE | 1u32.wrapping_shl(24 + random.upto(5)) | self.letters(random))?;
+                let gap = self.gap();
+                self.push_gap(gap, words)?;
+                words.push(SAMPLE | 1u32.wrapping_shl(24 + self.random.upto(5)) | self.letters())?;
             }
-            2 => words.push(END | 1u32.wrapping_shl(random.upto(29)))?,
+            2 => words.push(END | 1u32.wrapping_shl(self.random.upto(29)))?,
             3 => {
-                push_gap(self.gap(random).max(1), random, words)?;
+                let gap = self.gap().max(1);
+                self.push_gap(gap, words)?;
                 words.push(END)?;
             }
-            _ => push_overlong(random, words)?,
+            _ => self.push_overlong(words)?,
         }
         Ok(())
     }
 
-    /// The words of a stream, sound or not.
-    pub(crate) fn words(&self, random: &mut Random, heap: Global) -> Result<Vec<u32>, AllocError> {
-        let mut words = Vec::new(heap);
-        for _ in 0..4 + random.upto(14) {
-            if random.once_in(6) {
-                self.push_damage(random, &mut words)?;
-            } else {
-                self.push_sample(random, &mut words)?;
+    /// The words of a gap. A short one is sometimes cut in two, or has a word with no load.
+    fn push_gap(&mut self, gap: u32, words: &mut Vec<u32>) -> Result<(), AllocError> {
+        let mut left = gap;
+        // the longest gap has four full words, and a rest
+        for _ in 0..4 {
+            if left > FULL {
+                words.push(FULL)?;
+                left -= FULL;
             }
         }
-        if random.once_in(2) {
-            words.push(END)?;
-            self.push_sample(random, &mut words)?;
-            self.push_damage(random, &mut words)?;
+        if self.random.once_in(5) {
+            let part = self.random.upto(left);
+            words.push(part)?;
+            left -= part;
         }
-        Ok(words)
-    }
-}
-
-fn allowance(random: &mut Random) -> Option<u8> {
-    match random.upto(19) {
-        0 => Some(0),
-        1..=4 => Some(1),
-        5..=7 => Some(2),
-        8 => Some(3),
-        9 => Some(255),
-        _ => None,
-    }
-}
-
-fn long_gap(random: &mut Random) -> u32 {
-    match random.upto(4) {
-        0 => FULL,
-        1 => FULL + 1,
-        2 => u32::MAX,
-        3 => u32::MAX - 1,
-        _ => random.upto(u32::MAX),
-    }
-}
-
-/// The words of a gap. A short one is sometimes cut in two, or has a word with no load.
-fn push_gap(gap: u32, random: &mut Random, words: &mut Vec<u32>) -> Result<(), AllocError> {
-    let mut left = gap;
-    for _ in 0..4 {
-        if left > FULL {
-            words.push(FULL)?;
-            left -= FULL;
+        if left > 0 || self.random.once_in(9) {
+            words.push(left)?;
         }
+        Ok(())
     }
-    if random.once_in(5) {
-        let part = random.upto(left);
-        words.push(part)?;
-        left -= part;
-    }
-    if left > 0 || random.once_in(9) {
-        words.push(left)?;
-    }
-    Ok(())
-}
 
-/// A gap that may pass the longest by a tick, or by much, and a sample behind it.
-fn push_overlong(random: &mut Random, words: &mut Vec<u32>) -> Result<(), AllocError> {
-    for _ in 0..4 {
-        words.push(FULL)?;
+    /// A gap that may pass the longest by a tick, or by much, and a sample behind it.
+    fn push_overlong(&mut self, words: &mut Vec<u32>) -> Result<(), AllocError> {
+        let tick = self.random.upto(1);
+        let more = self.random.upto(FULL);
+        words.extend_from_slice(&[FULL, FULL, FULL, FULL, 3, tick, more, SAMPLE])
     }
-    words.push(3)?;
-    words.push(random.upto(1))?;
-    words.push(random.upto(FULL))?;
-    words.push(SAMPLE)?;
-    Ok(())
-}
 
-/// A number for `begin`.
-pub(crate) fn start(random: &mut Random) -> u64 {
-    match random.upto(9) {
-        0 => 0,
-        1 => 1,
-        2 | 3 => 65_535,
-        4 => 1_000_000_000_000 + u64::from(random.upto(2)),
-        5 => u64::MAX,
-        6 => u64::from(random.upto(u32::MAX)),
-        _ => 999_999_999_999 - u64::from(random.upto(6)),
+    /// A number for `begin`.
+    pub(crate) fn start(&mut self) -> u64 {
+        match self.random.upto(9) {
+            0 => 0,
+            1 => 1,
+            2 | 3 => 65_535,
+            4 => 1_000_000_000_000 + u64::from(self.random.upto(2)),
+            5 => u64::MAX,
+            6 => u64::from(self.random.upto(u32::MAX)),
+            _ => 999_999_999_999 - u64::from(self.random.upto(6)),
+        }
     }
 }

@@ -2,201 +2,158 @@
 //! Positions are counted from 1. Nothing is carried from one list to the next: there is no clock.
 use crate::model::{Branch, Reading, Row, Rule, Sign};
 
-/// Whether the sample at a position has the signal.
-fn has(list: &[Reading], i: usize, p: Sign) -> bool {
-    match list.get(i.wrapping_sub(1)) {
-        Some(reading) => p.holds(*reading),
-        None => false,
+/// A list of samples, as the sentences of the rules speak of it.
+#[derive(Clone, Copy)]
+struct Samples<'a>(&'a [Reading]);
+
+impl Samples<'_> {
+    /// Whether the sample at a position has the signal.
+    fn has(self, i: usize, p: Sign) -> bool {
+        i.checked_sub(1)
+            .and_then(|before| self.0.get(before))
+            .is_some_and(|reading| p.holds(*reading))
+    }
+
+    /// The time from i to j: the gaps of the samples behind i, up to j.
+    fn span(self, i: usize, j: usize) -> u64 {
+        self.0.iter().take(j).skip(i).fold(
+            0u64,
+            |time, reading| time.saturating_add(u64::from(reading.gap)),
+        )
+    }
+
+    /// Whether some position is so.
+    fn some<F: Fn(usize) -> bool>(self, so: F) -> bool
+        requires { F.IsAlwaysCallable so }
+    {
+        (1..=self.0.len()).any(so)
+    }
+
+    /// Whether some two positions are so, the second not before the first.
+    fn some_pair<F: Fn(usize, usize) -> bool>(self, so: F) -> bool
+        requires { F.IsAlwaysCallable so }
+    {
+        (1..=self.0.len()).any(|i| (i..=self.0.len()).any(|j| so(i, j)))
+    }
+
+    /// Some i has p.
+    fn never(self, p: Sign) -> bool {
+        self.some(|i| self.has(i, p))
+    }
+
+    /// Some i with d(1,i) >= T has p.
+    fn never_from(self, p: Sign, limit: u64) -> bool {
+        self.some(|i| self.span(1, i) >= limit && self.has(i, p))
+    }
+
+    /// For some a < c: p holds at a to c-1 and not at c; a is 1, or p does not hold at a-1; and d(a,c) < T.
+    fn hold_least(self, p: Sign, limit: u64) -> bool {
+        self.some_pair(|a, c| {
+            a < c
+                && (a..c).all(|k| self.has(k, p))
+                && !self.has(c, p)
+                && (a == 1 || !self.has(a.saturating_sub(1), p))
+                && self.span(a, c) < limit
+        })
+    }
+
+    /// For some a <= b: p holds at all of a to b, and d(a,b) >= T.
+    fn hold_under(self, p: Sign, limit: u64) -> bool {
+        self.some_pair(|a, b| (a..=b).all(|k| self.has(k, p)) && self.span(a, b) >= limit)
+    }
+
+    /// For some i < j: i is 1 or has p; d(i,j) > T; and no k with i < k <= j and d(i,k) <= T has p.
+    fn repeat(self, p: Sign, limit: u64) -> bool {
+        self.some_pair(|i, j| {
+            i < j
+                && (i == 1 || self.has(i, p))
+                && self.span(i, j) > limit
+                && !(i..=j).any(|k| i < k && self.span(i, k) <= limit && self.has(k, p))
+        })
+    }
+
+    /// For some i < j: i has p; d(i,j) > T; and no k with i <= k <= j and d(i,k) <= T has s.
+    fn answer(self, p: Sign, s: Sign, limit: u64) -> bool {
+        self.some_pair(|i, j| {
+            i < j
+                && self.has(i, p)
+                && self.span(i, j) > limit
+                && !(i..=j).any(|k| self.span(i, k) <= limit && self.has(k, s))
+        })
+    }
+
+    /// For some i <= j: i has p; d(i,j) < T; and s does not hold at j.
+    fn keep(self, p: Sign, s: Sign, limit: u64) -> bool {
+        self.some_pair(|i, j| self.has(i, p) && self.span(i, j) < limit && !self.has(j, s))
     }
 }
 
-/// The time from i to j: the gaps of the samples behind i, up to j.
-fn span(list: &[Reading], i: usize, j: usize) -> u64 {
-    let mut time: u64 = 0;
-    for (before, reading) in list.iter().enumerate() {
-        // it stands at before + 1
-        if i <= before && before < j {
-            time = time.saturating_add(u64::from(reading.gap));
-        }
-    }
-    time
-}
-
-/// Whether every sample from a up to, and not with, `end` has the signal.
-fn all_have(list: &[Reading], p: Sign, a: usize, end: usize) -> bool {
-    for k in a..end {
-        if !has(list, k, p) {
-            return false;
-        }
-    }
-    true
-}
-
-/// Whether some k from `first` to j, at most so long after i, has the signal.
-fn some_has(list: &[Reading], p: Sign, i: usize, first: usize, j: usize, limit: u64) -> bool {
-    for k in first..=j {
-        if span(list, i, k) <= limit && has(list, k, p) {
-            return true;
-        }
-    }
-    false
-}
-
-/// Some i has p.
-fn never(list: &[Reading], p: Sign) -> bool {
-    for i in 1..=list.len() {
-        if has(list, i, p) {
-            return true;
-        }
-    }
-    false
-}
-
-/// Some i with d(1,i) >= T has p.
-fn never_from(list: &[Reading], p: Sign, limit: u64) -> bool {
-    for i in 1..=list.len() {
-        if span(list, 1, i) >= limit && has(list, i, p) {
-            return true;
-        }
-    }
-    false
-}
-
-/// For some a < c: p holds at a to c-1 and not at c; a is 1, or p does not hold at a-1; and d(a,c) < T.
-fn hold_least(list: &[Reading], p: Sign, limit: u64) -> bool {
-    for a in 1..=list.len() {
-        for c in 1..=list.len() {
-            let run = a < c && all_have(list, p, a, c) && !has(list, c, p);
-            let whole = a == 1 || !has(list, a - 1, p);
-            if run && whole && span(list, a, c) < limit {
-                return true;
-            }
-        }
-    }
-    false
-}
-
-/// For some a <= b: p holds at all of a to b, and d(a,b) >= T.
-fn hold_under(list: &[Reading], p: Sign, limit: u64) -> bool {
-    for a in 1..=list.len() {
-        for b in 1..=list.len() {
-            let run = a <= b && all_have(list, p, a, b) && has(list, b, p);
-            if run && span(list, a, b) >= limit {
-                return true;
-            }
-        }
-    }
-    false
-}
-
-/// For some i < j: i is 1 or has p; d(i,j) > T; and no k with i < k <= j and d(i,k) <= T has p.
-fn repeat(list: &[Reading], p: Sign, limit: u64) -> bool {
-    for i in 1..=list.len() {
-        for j in 1..=list.len() {
-            let late = i < j && (i == 1 || has(list, i, p)) && span(list, i, j) > limit;
-            if late && !some_has(list, p, i, i.saturating_add(1), j, limit) {
-                return true;
-            }
-        }
-    }
-    false
-}
-
-/// For some i < j: i has p; d(i,j) > T; and no k with i <= k <= j and d(i,k) <= T has s.
-fn answer(list: &[Reading], p: Sign, s: Sign, limit: u64) -> bool {
-    for i in 1..=list.len() {
-        for j in 1..=list.len() {
-            let late = i < j && has(list, i, p) && span(list, i, j) > limit;
-            if late && !some_has(list, s, i, i, j, limit) {
-                return true;
-            }
-        }
-    }
-    false
-}
-
-/// For some i <= j: i has p; d(i,j) < T; and s does not hold at j.
-fn keep(list: &[Reading], p: Sign, s: Sign, limit: u64) -> bool {
-    for i in 1..=list.len() {
-        for j in 1..=list.len() {
-            if i <= j && has(list, i, p) && span(list, i, j) < limit && !has(list, j, s) {
-                return true;
-            }
-        }
-    }
-    false
+/// The shortest opening of the list that is so, and what is left of the list behind it.
+fn shortest<'a, F: Fn(&'a [Reading]) -> bool>(
+    list: &'a [Reading],
+    so: F,
+) -> Option<(&'a [Reading], &'a [Reading])>
+    requires { F.IsAlwaysCallable so }
+{
+    (0..=list.len())
+        .filter_map(|n| list.split_at_checked(n))
+        .find(|(opening, _)| so(opening))
 }
 
 impl Rule {
     fn fails(self, list: &[Reading]) -> bool {
+        let list = Samples(list);
         match self {
-            Rule::Never { p } => never(list, p),
-            Rule::NeverFrom { p, limit } => never_from(list, p, u64::from(limit)),
-            Rule::HoldLeast { p, limit } => hold_least(list, p, u64::from(limit)),
-            Rule::HoldUnder { p, limit } => hold_under(list, p, u64::from(limit)),
-            Rule::Repeat { p, limit } => repeat(list, p, u64::from(limit)),
-            Rule::Answer { p, s, limit } => answer(list, p, s, u64::from(limit)),
-            Rule::Keep { p, s, limit } => keep(list, p, s, u64::from(limit)),
+            Rule::Never { p } => list.never(p),
+            Rule::NeverFrom { p, limit } => list.never_from(p, limit.into()),
+            Rule::HoldLeast { p, limit } => list.hold_least(p, limit.into()),
+            Rule::HoldUnder { p, limit } => list.hold_under(p, limit.into()),
+            Rule::Repeat { p, limit } => list.repeat(p, limit.into()),
+            Rule::Answer { p, s, limit } => list.answer(p, s, limit.into()),
+            Rule::Keep { p, s, limit } => list.keep(p, s, limit.into()),
         }
     }
 }
 
 impl Branch {
-    /// Behind `after`, the rule sees only the part from the first sample that has the signal.
-    fn fails(self, list: &[Reading]) -> bool {
-        let Some(from) = self.after else {
-            return self.rule.fails(list);
-        };
-        for i in 0..list.len() {
-            if from.holds(list[i]) {
-                return self.rule.fails(&list[i..]);
+    /// The part of the list that the rule sees. Behind `after` it is that from the first sample that has the signal, if there is one.
+    fn part(self, list: &[Reading]) -> Option<&[Reading]> {
+        match self.after {
+            Some(from) => {
+                let first = list.iter().position(|reading| from.holds(*reading))?;
+                list.get(first..)
             }
+            None => Some(list),
         }
-        false
+    }
+
+    fn fails(self, list: &[Reading]) -> bool {
+        self.part(list).is_some_and(|part| self.rule.fails(part))
     }
 }
 
 impl Row {
     /// Whether the row's one or two branches all fail: what `allow` counts.
     fn breaks(self, list: &[Reading]) -> bool {
-        match self.second {
-            Some(second) => self.first.fails(list) && second.fails(list),
-            None => self.first.fails(list),
-        }
+        self.first.fails(list) && self.second.is_none_or(|second| second.fails(list))
     }
 
     /// What is left of the list behind the shortest opening that breaks, if one does.
-    fn cut<'a>(self, list: &'a [Reading]) -> Option<&'a [Reading]> {
-        for n in 0..=list.len() {
-            if self.breaks(&list[0..n]) {
-                return Some(&list[n..]);
-            }
-        }
-        None
+    fn cut(self, list: &[Reading]) -> Option<&[Reading]> {
+        let (_, rest) = shortest(list, |opening| self.breaks(opening))?;
+        Some(rest)
     }
 
     /// Whether more failures are found, one behind another, than are allowed.
     fn fails(self, list: &[Reading]) -> bool {
-        let mut rest = list;
-        let mut failures: usize = 0;
-        // a failure takes a sample at least, so there are no more failures than samples
-        for _ in 0..list.len() {
-            let Some(left) = self.cut(rest) else {
-                break;
-            };
-            rest = left;
-            failures = failures.saturating_add(1);
-        }
-        failures > usize::from(self.allow.unwrap_or(0))
+        (0..=self.allow.unwrap_or(0))
+            .try_fold(list, |rest, _| self.cut(rest))
+            .is_some()
     }
 
-    /// The length of the shortest opening of the list that fails.
-    pub(crate) fn lost_at(self, list: &[Reading]) -> Option<usize> {
-        for n in 0..=list.len() {
-            if self.fails(&list[0..n]) {
-                return Some(n);
-            }
-        }
-        None
+    /// The shortest opening of the list that fails.
+    pub(crate) fn lost_in(self, list: &[Reading]) -> Option<&[Reading]> {
+        let (opening, _) = shortest(list, |opening| self.fails(opening))?;
+        Some(opening)
     }
 }

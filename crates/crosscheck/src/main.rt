@@ -12,27 +12,27 @@ mod play;
 mod product;
 mod random;
 mod record;
+mod refusal;
 mod second;
 mod talk;
 mod tally;
 
 use crate::play::play;
 use crate::record::Record;
-use anyhow::anyhow;
+use anyhow::bail;
 
 const STORIES: u32 = 20_000;
 
 fn main(rt: HostRuntime) -> anyhow::Result<()> {
-    let mut record = Record::new();
+    let heap = rt.alloc();
+    let mut record = Record::new(heap);
     for number in 1..=STORIES {
-        play(rt.alloc(), number, &mut record)?;
+        play(heap, number, &mut record)?;
     }
-    record.tally.print(&rt)?;
-    match record.first {
-        Some(difference) => {
-            eprintln!(rt; "{difference}")?;
-            Err(anyhow!("the watches differ"))
-        }
-        None => Ok(()),
+    println!(rt; "{}", record.tally)?;
+    if let Some(difference) = &record.first {
+        eprintln!(rt; "{difference}")?;
+        bail!("the watches differ");
     }
+    Ok(())
 }

@@ -1,9 +1,10 @@
 //! Samples, notices and the lines of a book, as the second watch has them, and how a line is spelled.
 use std::fmt;
 
-/// A sample: the gap before it, and a bit for each letter.
+/// A sample: its number, the gap before it, and a bit for each letter.
 #[derive(Clone, Copy)]
 pub(crate) struct Reading {
+    pub(crate) number: u64,
     pub(crate) gap: u32,
     pub(crate) letters: u32,
 }
@@ -15,25 +16,18 @@ pub(crate) struct Told {
     pub(crate) seat: u8,
 }
 
-/// What a signal asks of a sample, before any `!`.
-#[derive(Clone, Copy)]
-pub(crate) enum Bare {
-    Every,
-    Letter(u8),
-}
-
+/// What a signal asks of a sample.
 #[derive(Clone, Copy)]
 pub(crate) struct Sign {
-    pub(crate) bare: Bare,
+    /// The bit of its letter, or none where it is `*`.
+    pub(crate) letter: Option<u8>,
     pub(crate) opposite: bool,
 }
 
 impl Sign {
     pub(crate) fn holds(self, reading: Reading) -> bool {
-        let met = match self.bare {
-            Bare::Every => true,
-            Bare::Letter(bit) => reading.letters.wrapping_shr(u32::from(bit)) % 2 == 1,
-        };
+        let met = self.letter.is_none_or(|bit| reading.letters.wrapping_shr(u32::from(bit)) % 2
+            == 1);
         met != self.opposite
     }
 }
@@ -68,9 +62,7 @@ pub(crate) struct Row {
 
 impl fmt::Display for Told {
     fn fmt<W: fmt::Write>(&self, f: &mut fmt::Formatter<W>) -> fmt::Result {
-        let seat = self.seat;
-        let number = self.number;
-        write!(f, "seat {seat} at {number}")
+        write!(f, "seat {} at {}", self.seat, self.number)
     }
 }
 
@@ -79,12 +71,9 @@ impl fmt::Display for Sign {
         if self.opposite {
             f.write_str("!")?;
         }
-        match self.bare {
-            Bare::Every => f.write_str("*"),
-            Bare::Letter(bit) => {
-                let letter = char::from(b'a'.wrapping_add(bit));
-                write!(f, "{letter}")
-            }
+        match self.letter {
+            Some(bit) => write!(f, "{}", char::from(b'a'.wrapping_add(bit))),
+            None => f.write_str("*"),
         }
     }
 }
@@ -105,19 +94,16 @@ impl fmt::Display for Rule {
 
 impl fmt::Display for Branch {
     fn fmt<W: fmt::Write>(&self, f: &mut fmt::Formatter<W>) -> fmt::Result {
-        let rule = self.rule;
-        match self.after {
-            Some(from) => write!(f, "after {from} {rule}"),
-            None => write!(f, "{rule}"),
+        if let Some(from) = self.after {
+            write!(f, "after {from} ")?;
         }
+        write!(f, "{}", self.rule)
     }
 }
 
 impl fmt::Display for Row {
     fn fmt<W: fmt::Write>(&self, f: &mut fmt::Formatter<W>) -> fmt::Result {
-        let number = self.number;
-        let first = self.first;
-        write!(f, "{number} {first}")?;
+        write!(f, "{} {}", self.number, self.first)?;
         if let Some(second) = self.second {
             write!(f, " or {second}")?;
         }

@@ -1,27 +1,28 @@
 //! The watch under trial, asked in the same way as the second one.
 use crate::model::Told;
-use crate::talk::{Ask, ROOM, Reply, UNTOUCHED};
+use crate::refusal::{Refusal, UnknownRefusal};
+use crate::talk::{Answers, ROOM, Reply};
 use book::Book;
 use watch::{Notice, Watch};
+
+/// What stands in the caller's list beforehand. No notice is like it.
+const UNTOUCHED: Notice = Notice {
+    seat: 211,
+    number: 777_777_777_777_777,
+};
 
 #[derive(Drop)]
 pub(crate) struct Product {
     watch: Watch<Book>,
 }
 
-fn told(notice: Notice) -> Told {
-    Told {
-        number: notice.number,
-        seat: notice.seat,
+impl From<Notice> for Told {
+    fn from(notice: Notice) -> Told {
+        Told {
+            number: notice.number,
+            seat: notice.seat,
+        }
     }
-}
-
-fn all_told(notices: &[Notice; ROOM]) -> [Told; ROOM] {
-    let mut all = [UNTOUCHED; ROOM];
-    for (record, notice) in all.iter_mut().zip(notices) {
-        *record = told(*notice);
-    }
-    all
 }
 
 impl Product {
@@ -30,53 +31,44 @@ impl Product {
             watch: Watch::new(book),
         }
     }
+}
 
-    pub(crate) fn next_number(&self) -> u64 {
-        self.watch.next_number()
-    }
+impl Answers for Product {
+    type Error = UnknownRefusal;
 
-    pub(crate) fn answer(&mut self, ask: &Ask) -> Reply {
-        match ask {
-            Ask::Begin(number) => self.begin(*number),
-            Ask::Deliver(piece) => self.deliver(piece),
-            Ask::List(room) => self.list(*room),
-            Ask::Collect => self.collect(),
-        }
-    }
-
-    fn begin(&mut self, number: u64) -> Reply {
+    fn begin(&mut self, number: u64) -> Result<Reply, UnknownRefusal> {
         match self.watch.begin(number) {
-            Ok(()) => Reply::Begun(None),
-            Err(refusal) => Reply::Begun(Some(refusal.number())),
+            Ok(()) => Ok(Reply::Begun(Ok(()))),
+            Err(refusal) => Ok(Reply::Begun(Err(refusal.number().try_into()?))),
         }
     }
 
-    fn deliver(&mut self, piece: &[u32]) -> Reply {
+    fn deliver(&mut self, piece: &[u32]) -> Result<Reply, UnknownRefusal> {
         match self.watch.deliver(piece) {
-            (taken, Some(refusal)) => Reply::Taken(taken, Some(refusal.number())),
-            (taken, None) => Reply::Taken(taken, None),
+            (taken, None) => Ok(Reply::Taken(taken, None)),
+            (taken, Some(refusal)) => Ok(Reply::Taken(taken, Some(refusal.number().try_into()?))),
         }
     }
 
-    fn list(&self, room: usize) -> Reply {
-        let filler = Notice {
-            seat: UNTOUCHED.seat,
-            number: UNTOUCHED.number,
-        };
-        let mut notices = [filler; ROOM];
+    fn list(&self, room: usize) -> Result<Reply, UnknownRefusal> {
+        let mut notices = [UNTOUCHED; ROOM];
         let reach = room.min(ROOM);
-        let (written, waiting) = self.watch.list(&mut notices[0..reach]);
-        Reply::Listed {
+        let (written, waiting) = self.watch.list(&mut notices[..reach]);
+        Ok(Reply::Listed {
             written,
             waiting,
-            out: all_told(&notices),
+            out: notices.map(|notice| (notice != UNTOUCHED).then(|| notice.into())),
+        })
+    }
+
+    fn collect(&mut self) -> Result<Reply, UnknownRefusal> {
+        match self.watch.collect() {
+            Ok(notice) => Ok(Reply::Collected(Ok(notice.into()))),
+            Err(refusal) => Ok(Reply::Collected(Err(refusal.number().try_into()?))),
         }
     }
 
-    fn collect(&mut self) -> Reply {
-        match self.watch.collect() {
-            Ok(notice) => Reply::Collected(Ok(told(notice))),
-            Err(refusal) => Reply::Collected(Err(refusal.number())),
-        }
+    fn next_number(&self) -> u64 {
+        self.watch.next_number()
     }
 }

@@ -30,4 +30,9 @@ impl Random {
     pub(crate) fn once_in(&mut self, times: u32) -> bool {
         self.upto(times.saturating_sub(1)) == 0
     }
+
+    /// The bit of any letter.
+    pub(crate) fn letter(&mut self) -> u8 {
+        self.upto(23) as u8
+    }
 }

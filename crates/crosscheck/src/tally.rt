@@ -1,27 +1,13 @@
 //! What the stories met, counted.
-use crate::model::{Bare, Branch, Row, Rule, Sign, Told};
-use std::io;
+use crate::model::{Branch, Row, Rule, Sign, Told};
+use crate::refusal::Refusal;
+use std::alloc::{AllocError, Global};
+use std::collections::BTreeMap;
+use std::fmt;
+use std::num::Saturating;
 
-/// How many parts of rows are told apart: the seven rules, three layers and two signs.
-const PARTS: usize = 12;
-
-const NAMES: [&str; PARTS] = [
-    "never",
-    "never from",
-    "hold least",
-    "hold under",
-    "repeat",
-    "answer",
-    "keep",
-    "after",
-    "or",
-    "allow",
-    "*",
-    "!",
-];
-
-/// What a row can have in it, in the order of the names.
-#[derive(Clone, Copy)]
+/// What a row can have in it: one of the seven rules, of three layers and of two signs.
+#[derive(Clone, Copy, PartialEq, Eq, PartialOrd, Ord)]
 enum Part {
     Never,
     NeverFrom,
@@ -37,8 +23,8 @@ enum Part {
     Opposite,
 }
 
-impl Part {
-    fn of(rule: Rule) -> Part {
+impl From<Rule> for Part {
+    fn from(rule: Rule) -> Part {
         match rule {
             Rule::Never { .. } => Part::Never,
             Rule::NeverFrom { .. } => Part::NeverFrom,
@@ -51,146 +37,170 @@ impl Part {
     }
 }
 
-/// How often something stood in a row, and how often in a row that was lost.
-#[derive(Clone, Copy)]
-struct Met {
-    rows: u64,
-    lost: u64,
+impl fmt::Display for Part {
+    fn fmt<W: fmt::Write>(&self, f: &mut fmt::Formatter<W>) -> fmt::Result {
+        f.write_str(match self {
+            Part::Never => "never",
+            Part::NeverFrom => "never from",
+            Part::HoldLeast => "hold least",
+            Part::HoldUnder => "hold under",
+            Part::Repeat => "repeat",
+            Part::Answer => "answer",
+            Part::Keep => "keep",
+            Part::After => "after",
+            Part::Or => "or",
+            Part::Allow => "allow",
+            Part::Every => "*",
+            Part::Opposite => "!",
+        })
+    }
 }
 
-#[derive(Clone, Copy)]
+/// A count, which would stop at the highest number.
+type Count = Saturating<u64>;
+
+/// How often something stood in a row, and how often in a row that was lost.
+#[derive(Clone, Copy, Default)]
+struct Met {
+    rows: Count,
+    lost: Count,
+}
+
+impl fmt::Display for Met {
+    fn fmt<W: fmt::Write>(&self, f: &mut fmt::Formatter<W>) -> fmt::Result {
+        write!(f, "{}, lost {}", self.rows, self.lost)
+    }
+}
+
+#[derive(Drop)]
 pub(crate) struct Tally {
-    stories: u64,
-    calls: u64,
-    losses: u64,
-    refusals: u64,
-    differ: u64,
-    parts: [Met; PARTS],
-    /// Refusal k stands at k.
-    by_number: [u64; 29],
+    stories: Count,
+    calls: Count,
+    losses: Count,
+    refusals: Count,
+    differ: Count,
+    parts: BTreeMap<Part, Met>,
+    by_refusal: BTreeMap<Refusal, Count>,
 }
 
 impl Tally {
-    pub(crate) fn new() -> Tally {
+    pub(crate) fn new(heap: Global) -> Tally {
         Tally {
-            stories: 0,
-            calls: 0,
-            losses: 0,
-            refusals: 0,
-            differ: 0,
-            parts: [Met { rows: 0, lost: 0 }; PARTS],
-            by_number: [0; 29],
+            stories: Count::default(),
+            calls: Count::default(),
+            losses: Count::default(),
+            refusals: Count::default(),
+            differ: Count::default(),
+            parts: BTreeMap::new(heap),
+            by_refusal: BTreeMap::new(heap),
         }
     }
 
     pub(crate) fn differs(&mut self) {
-        self.differ = self.differ.saturating_add(1);
+        self.differ += 1;
     }
 
     /// Counts a call, with its refusal.
-    pub(crate) fn called(&mut self, refusal: Option<u8>) {
-        self.calls = self.calls.saturating_add(1);
-        if let Some(number) = refusal {
-            self.refused(number);
+    pub(crate) fn called(&mut self, refusal: Option<Refusal>) -> Result<(), AllocError> {
+        self.calls += 1;
+        match refusal {
+            Some(refusal) => self.refused(refusal),
+            None => Ok(()),
         }
     }
 
     /// Counts a refusal of a call, or of a text that is no book.
-    pub(crate) fn refused(&mut self, number: u8) {
-        self.refusals = self.refusals.saturating_add(1);
-        let at = usize::from(number);
-        if at < self.by_number.len() {
-            self.by_number[at] = self.by_number[at].saturating_add(1);
-        }
+    pub(crate) fn refused(&mut self, refusal: Refusal) -> Result<(), AllocError> {
+        self.refusals += 1;
+        *self.by_refusal.entry(refusal)?.or_default() += 1;
+        Ok(())
     }
 
     /// Counts a story with what stands in its rows, and which of them were lost.
-    pub(crate) fn story(&mut self, rows: &[Row], losses: &[Told]) {
-        self.stories = self.stories.saturating_add(1);
-        let mut seat: u8 = 0;
-        for row in rows {
-            seat = seat.saturating_add(1);
-            let lost = has_seat(losses, seat);
-            if lost {
-                self.losses = self.losses.saturating_add(1);
-            }
-            self.row(*row, lost);
+    pub(crate) fn story(&mut self, rows: &[Row], losses: &[Told]) -> Result<(), AllocError> {
+        self.stories += 1;
+        for (seat, row) in (1..=u8::MAX).zip(rows) {
+            let lost = losses.iter().any(|told| told.seat == seat);
+            self.losses += u64::from(lost);
+            let mut counter = Counter {
+                parts: &mut self.parts,
+                lost,
+            };
+            counter.row(row)?;
         }
+        Ok(())
     }
+}
 
-    fn row(&mut self, row: Row, lost: bool) {
-        self.branch(row.first, lost);
+impl fmt::Display for Tally {
+    fn fmt<W: fmt::Write>(&self, f: &mut fmt::Formatter<W>) -> fmt::Result {
+        writeln!(f, "stories {}", self.stories)?;
+        writeln!(f, "calls {}", self.calls)?;
+        writeln!(f, "losses {}", self.losses)?;
+        writeln!(f, "refusals {}", self.refusals)?;
+        for (part, met) in self.parts.iter() {
+            writeln!(f, "{part} {met}")?;
+        }
+        for (refusal, count) in self.by_refusal.iter() {
+            writeln!(f, "{refusal} {count}")?;
+        }
+        write!(f, "differ {}", self.differ)
+    }
+}
+
+/// Counts what stands in one row, which was lost or not.
+#[derive(Drop)]
+struct Counter<'a> {
+    parts: &'a mut BTreeMap<Part, Met>,
+    lost: bool,
+}
+
+impl Counter<'_> {
+    fn row(&mut self, row: &Row) -> Result<(), AllocError> {
+        self.branch(row.first)?;
         if let Some(second) = row.second {
-            self.branch(second, lost);
-            self.part(Part::Or, lost);
+            self.branch(second)?;
+            self.part(Part::Or)?;
         }
         if row.allow.is_some() {
-            self.part(Part::Allow, lost);
+            self.part(Part::Allow)?;
         }
+        Ok(())
     }
 
-    fn branch(&mut self, branch: Branch, lost: bool) {
+    fn branch(&mut self, branch: Branch) -> Result<(), AllocError> {
         if let Some(from) = branch.after {
-            self.part(Part::After, lost);
-            self.sign(from, lost);
+            self.part(Part::After)?;
+            self.sign(from)?;
         }
-        self.part(Part::of(branch.rule), lost);
+        self.part(branch.rule.into())?;
         match branch.rule {
             Rule::Answer { p, s, .. } | Rule::Keep { p, s, .. } => {
-                self.sign(p, lost);
-                self.sign(s, lost);
+                self.sign(p)?;
+                self.sign(s)
             }
             Rule::Never { p }
             | Rule::NeverFrom { p, .. }
             | Rule::HoldLeast { p, .. }
             | Rule::HoldUnder { p, .. }
-            | Rule::Repeat { p, .. } => self.sign(p, lost),
+            | Rule::Repeat { p, .. } => self.sign(p),
         }
     }
 
-    fn sign(&mut self, sign: Sign, lost: bool) {
-        if matches!(sign.bare, Bare::Every) {
-            self.part(Part::Every, lost);
+    fn sign(&mut self, sign: Sign) -> Result<(), AllocError> {
+        if sign.letter.is_none() {
+            self.part(Part::Every)?;
         }
         if sign.opposite {
-            self.part(Part::Opposite, lost);
+            self.part(Part::Opposite)?;
         }
+        Ok(())
     }
 
-    fn part(&mut self, part: Part, lost: bool) {
-        let at = part as usize;
-        if at < self.parts.len() {
-            let met = self.parts[at];
-            self.parts[at] = Met {
-                rows: met.rows.saturating_add(1),
-                lost: met.lost.saturating_add(u64::from(lost)),
-            };
-        }
+    fn part(&mut self, part: Part) -> Result<(), AllocError> {
+        let met = self.parts.entry(part)?.or_default();
+        met.rows += 1;
+        met.lost += u64::from(self.lost);
+        Ok(())
     }
-
-    pub(crate) fn print(&self, rt: &HostRuntime) -> io::Result<()> {
-        println!(rt; "stories {}", self.stories)?;
-        println!(rt; "calls {}", self.calls)?;
-        println!(rt; "losses {}", self.losses)?;
-        println!(rt; "refusals {}", self.refusals)?;
-        for (name, met) in NAMES.iter().zip(self.parts.iter()) {
-            println!(rt; "{name} {}, lost {}", met.rows, met.lost)?;
-        }
-        for (number, count) in self.by_number.iter().enumerate() {
-            // the calls give 1 to 10, and the reading of a book 21 to 28
-            if *count > 0 {
-                println!(rt; "refusal {number} {count}")?;
-            }
-        }
-        println!(rt; "differ {}", self.differ)
-    }
-}
-
-fn has_seat(losses: &[Told], seat: u8) -> bool {
-    for told in losses {
-        if told.seat == seat {
-            return true;
-        }
-    }
-    false
 }

@@ -8,32 +8,29 @@ use Rattle.monitor.specs.declared.rule.Rule.{Rule}
 use Rattle.monitor.specs.Sentences.{Sentence}
 use Rattle.monitor.specs.Turns.{unjudged, fresh_rule}
 use Rattle.monitor.proofs.Meanings.{fails_by_sentence}
+use Rattle.layers.specs.declared.choice.Choice.TheVariants.{One, Other}
 use Rattle.layers.specs.Parts.{Fails, FirstPart}
 use Rattle.layers.proofs.FirstParts.{after_decides}
 use Rattle.layers.proofs.Openings.{allow_decides}
 use Rattle.grammar.specs.declared.tree.Term.{Term}
 use Rattle.grammar.specs.declared.tree.Line.{Line}
-use Rattle.book.specs.declared.guarded.Guarded.{Guarded}
-use Rattle.book.specs.declared.guarded.Guarded.TheVariants as guarded
-use Rattle.book.specs.declared.body.Body.{Body}
-use Rattle.book.specs.declared.body.Body.TheVariants as body
 use Rattle.book.specs.declared.clause.Clause.{Clause}
-use Rattle.book.specs.Clauses.{fresh_guarded, fresh_body, fresh_clause}
+use Rattle.book.specs.Clauses.{Guarded, Body, fresh_guarded, fresh_body, fresh_clause}
 use Rattle.book.specs.Meaning.{AfterFails, TermFails, RulesFail, ClauseFails}
 use Rattle.book.specs.Laws.{body_lasting_new, body_starts}
 use Rattle.book.proofs.Same.{by_breaks}
 
 -- the clause of a line, part by part
 abbrev guarded_by : Option Signal → Rule → Guarded
-guarded_by None rule = guarded.Plain rule
-guarded_by (Some q) rule = guarded.After (record { trigger = q; opened = false; below = rule })
+guarded_by None rule = One rule
+guarded_by (Some q) rule = Other (record { trigger = q; opened = false; below = rule })
 
 abbrev guarded_of : Term → Guarded
 guarded_of t = guarded_by t.after (unjudged t.pattern)
 
 abbrev body_of : Term → Option Term → Body
-body_of t None = body.One (guarded_of t)
-body_of t (Some u) = body.Two (record { first = guarded_of t; second = guarded_of u })
+body_of t None = One (guarded_of t)
+body_of t (Some u) = Other (record { first = guarded_of t; second = guarded_of u })
 
 abbrev rules_of : Line → Body
 rules_of line = body_of line.first line.second

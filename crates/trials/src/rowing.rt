@@ -10,9 +10,7 @@ fn good_and_bad_lines(rt: HostRuntime) -> Result<(), Fail> {
         b"10 abcdefghijklmnopqrstuvwx",
     ];
     for line in good {
-        let mut out = [0; 35];
-        let count = there_and_back(line, &mut out)?;
-        assert!(rt; &out[0..count] == line);
+        assert!(rt; there_and_back(line)?.as_str().as_bytes() == line);
     }
     let bad: [(&[u8], usize, Expected); 12] = [
         (b"", 0, Expected::Gap),

@@ -68,13 +68,13 @@ module _ (s : State) (w : ℕ) where
 
   -- the three kinds of word that are taken
   pub takes_gap : (t : State) → s.ended ≡ false → kind w ≡ 0 → s.pending + load w ≤ longest_gap
-      → t ≡ record { next = s.next; pending = s.pending + load w; begun = true; ended = s.ended } → Took s w (Ok None) t
-  takes_gap t e k h a = takes None t (is_gap e k h) (made_none (omega arith)) (a ∙ rw (k, e))
+      → t ≡ record { next = s.next; pending = s.pending + load w; begun = true; ended = false } → Took s w (Ok None) t
+  takes_gap t e k h a = takes None t (is_gap e k h) (made_none (omega arith)) (a ∙ rw k)
 
   pub takes_sample : (x : Numbered) (t : State) → s.ended ≡ false → kind w ≡ 1 → load w / 2 ^ 24 ≤ 0 → s.next ≤ last_number
       → x.number ≡ s.next → x.sample.gap ≡ s.pending → x.sample.letters ≡ load w
-      → t ≡ record { next = s.next + 1; pending = 0; begun = true; ended = s.ended } → Took s w (Ok (Some x)) t
-  takes_sample x t e k h m n g l a = takes (Some x) t (is_sample e k h m) (made_sample x k h n g l) (a ∙ rw (k, e))
+      → t ≡ record { next = s.next + 1; pending = 0; begun = true; ended = false } → Took s w (Ok (Some x)) t
+  takes_sample x t e k h m n g l a = takes (Some x) t (is_sample e k h m) (made_sample x k h n g l) (a ∙ rw k)
 
   pub takes_end : (t : State) → s.ended ≡ false → kind w ≡ 3 → load w ≤ 0 → s.pending ≤ 0
       → t ≡ record { next = s.next; pending = s.pending; begun = true; ended = true } → Took s w (Ok None) t

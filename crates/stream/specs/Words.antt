@@ -7,6 +7,8 @@ use Rattle.stream.specs.declared.refusal.Refusal.TheVariants.{StreamEnded, Unuse
 use Rattle.stream.specs.declared.sample.Sample.{Sample}
 use Rattle.stream.specs.declared.numbered.Numbered.{Numbered}
 use Rattle.stream.specs.declared.feed.Feed.{Feed}
+use Rattle.stream.specs.declared.feed.Stage.{Stage}
+use Rattle.stream.specs.declared.feed.Stage.TheVariants.{Unread, Begun, Ended}
 use Rattle.stream.specs.Refusals.{when, first_of}
 
 -- how far a stream was read
@@ -16,8 +18,19 @@ pub record State : Type 0 where
   pub begun : Bool
   pub ended : Bool
 
+-- whether a word was taken, and whether the stream ended
+abbrev pub is_begun : Stage → Bool
+is_begun Unread = false
+is_begun Begun = true
+is_begun Ended = true
+
+abbrev pub is_ended : Stage → Bool
+is_ended Unread = false
+is_ended Begun = false
+is_ended Ended = true
+
 abbrev pub state_of : Feed → State
-state_of f = record { next = f.next; pending = f.pending; begun = f.begun; ended = f.ended }
+state_of f = record { next = f.next; pending = f.pending; begun = is_begun f.stage; ended = is_ended f.stage }
 
 -- before any word
 abbrev pub unread : State

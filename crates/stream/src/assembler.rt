@@ -3,6 +3,7 @@ ghost use Rattle.stream.specs.Bytes.{held_by, bytes_of, finish_by};
 
 use crate::refusal::Refusal;
 
+// Cases, and no `ArrayVec<u8, 3>`: they are `Copy`, and no count of bytes has to be bounded.
 /// Puts words together from bytes, the high byte first. It holds the bytes of the word that is not whole yet.
 #[derive(Clone, Copy, Debug)]
 pub enum Assembler {

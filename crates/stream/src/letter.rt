@@ -4,7 +4,7 @@ ghost use Rattle.stream.specs.declared.refusal.Refusal.TheVariants.{HighSignal};
 use crate::refusal::Refusal;
 
 /// One of the letters a to x, by its bit: a is 0 and x is 23.
-// A type of its own, and no instance of a bounded number: letters, limits and clause numbers have each another width, another bound and another answer to what is beyond it.
+// A type of its own: a generic number would take its integer, its bounds and its refusal from a trait, and each impl of that would be as long as this type.
 #[derive(Clone, Copy, PartialEq, Eq, Debug)]
 pub struct Letter {
     bit: u8,

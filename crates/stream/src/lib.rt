@@ -66,9 +66,9 @@ mod tests {
         feed.begin(65_535)?;
         feed.take(0x4000_0000)?;
         feed.take(0x4000_0000)?;
-        let Some(third) = feed.take(0x4000_0001)? else {
-            return Err(Fail::new("no sample"));
-        };
+        let third = feed
+            .take(0x4000_0001)?
+            .ok_or_else(|| Fail::new("no sample"))?;
         assert_eq!(rt; third.number, 65_537);
         assert!(rt; feed.begin(1).is_err());
         let mut last = Feed::new();

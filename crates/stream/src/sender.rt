@@ -23,6 +23,7 @@ pub fn write_sample(gap: u32, letters: u32, out: &mut [u32]) -> Result<usize, Re
 }
 
 /// So many full gap words, the rest of the gap if there is one, and the letters.
+// Parts, and no `Sample`: by here its gap is words already.
 fn put_words(fulls: usize, rest: u32, letters: u32, out: &mut [u32]) -> Result<usize, Refusal>
     requires few { fulls < 2 ^ 32 }
     requires low { letters < 2 ^ 24 }

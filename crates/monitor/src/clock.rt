@@ -10,7 +10,8 @@ pub type Clock = Option<u32>;
 pub(crate) fn later(clock: Clock, gap: u32) -> Clock
     ensures { result ≡ advanced clock gap }
 {
-    clock.map(|ticks| ticks.saturating_add(gap))
+    // `?`, and not `map`: by that a rule took a quarter longer to judge.
+    Some(clock?.saturating_add(gap))
 }
 
 /// A running clock goes on, and a stopped one begins.
@@ -20,6 +21,7 @@ pub(crate) fn begun(clock: Clock) -> Clock
     clock.or(Some(0))
 }
 
+// Three questions of a clock and a limit, each a line: the limit is not the clock's own.
 /// Whether it runs and has come to the limit.
 pub(crate) fn reached(clock: Clock, limit: Ticks) -> bool
     ensures { result ≡ reached clock limit.value }

@@ -26,7 +26,7 @@ mod tests {
 
     const B: u32 = 2;
 
-    // The number of the sample at which the rule is lost, if it is. A trace is a list of gaps and letters.
+    // The number of the sample at which the rule is lost, if it is; it has its like in the tests of layers, and tests of two crates share no code. A trace is a list of gaps and letters.
     fn lost_at(pattern: Pattern, trace: &[(u32, u32)]) -> Result<Option<usize>, Refusal> {
         let mut rule = Rule::new(pattern);
         for (i, (gap, letters)) in trace.iter().enumerate() {

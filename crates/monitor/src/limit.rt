@@ -4,7 +4,7 @@ ghost use Rattle.stream.specs.declared.refusal.Refusal.TheVariants.{HighLimit};
 use stream::Refusal;
 
 /// The time limit T of a rule, in ticks: at most 999,999,999.
-// A type of its own, and no instance of a bounded number: letters, limits and clause numbers have each another width, another bound and another answer to what is beyond it.
+// A type of its own: a generic number would take its integer, its bounds and its refusal from a trait, and each impl of that would be as long as this type.
 #[derive(Clone, Copy, PartialEq, Eq, Debug)]
 pub struct Ticks {
     value: u32,

@@ -26,7 +26,7 @@ fn never(p: bool) -> Turn
     }
 }
 
-// The clock is the rule's and the limit its pattern's: a struct of both would be made at each sample, to be taken apart again.
+// Clock, limit and signals go side by side: the clock is the rule's and the others its pattern's, and a struct of them would be made at each sample, to be taken apart again.
 /// The clock runs since the first sample.
 fn never_from(clock: Clock, t: Ticks, p: bool) -> Turn
     ensures { result ≡ never_from_turn clock t.value p }
@@ -102,6 +102,7 @@ fn keep(clock: Clock, t: Ticks, p: bool, s: bool) -> Turn
 pub struct Rule {
     pattern: Pattern,
     clock: Clock,
+    /// A flag, and no enum of two states: a lost rule keeps its pattern, by which it is renewed.
     lost: bool,
 }
 

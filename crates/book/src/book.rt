@@ -44,6 +44,7 @@ impl Book {
     }
 
     /// The book of these lines.
+    // No `TryFrom`: who has lines has read them, so that they are 1 to 64, and no refusal of others is known.
     pub(crate) fn of(lines: &[Line]) -> Book
         requires some { 1 ≤ length lines.now }
         requires few { length lines.now ≤ 64 }
@@ -80,6 +81,7 @@ impl Panel for Book {
 
     ghost lasting = { λ m l h k e. at_lasting (at_seat (clauses_of m) k) l h e };
 
+    // An impl's clauses stand in place of its trait's: these are said again beside `numbered`.
     fn judge(&mut self, sample: Sample) -> Seats
         ensures seated { seats_of self.new ≡ seats_of self.old }
         ensures after { (l : List Sample) (k : ℕ) → book_fails self.new l k ≡ book_fails self.old (sample ∷ l) k }
@@ -95,6 +97,7 @@ impl Panel for Book {
         lost
     }
 
+    // The loop of `judge` again: one text for both would be lent clauses for change and for a look alike.
     fn lost(&self) -> Seats {
         let mut seats = Seats::none();
         for (i, clause) in self.clauses.iter().enumerate() {

@@ -59,6 +59,7 @@ impl Monitor for Clause {
 
     ghost starts = { clause_starts };
 
+    // An impl's clauses stand in place of its trait's: those of `judge` and `renew` are said again beside `numbered`.
     fn judge(&mut self, sample: Sample) -> bool
         ensures after { (l : List Sample) → fails_clause self.new l ≡ fails_clause self.old (sample ∷ l) }
         ensures keeps { (l : List Sample) → fresh_clause self.new l ≡ fresh_clause self.old l }

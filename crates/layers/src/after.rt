@@ -21,6 +21,7 @@ impl<M: Monitor> After<M> {
     /// The layer over a monitor that is begun as new.
     pub fn new(trigger: Signal, below: M) -> After<M>
         ensures meaning { (l : List Sample) → Decides (⟦<After<M> as Monitor>⟧.fails_new result l) (FirstPart trigger (Fails (M.fails_new below)) l) }
+        // of what was made alone, and of no later value, so that no type can keep it
         ensures made { (l : List Sample) → ⟦<After<M> as Monitor>⟧.fails_now result l ≡ ⟦<After<M> as Monitor>⟧.fails_new result l }
     {
         After {

@@ -21,6 +21,7 @@ impl<M: Monitor> Allow<M> {
     /// The layer over a monitor that is begun as new.
     pub fn new(allowed: u8, below: M) -> Allow<M>
         ensures meaning { (l : List Sample) → Decides (⟦<Allow<M> as Monitor>⟧.fails_new result l) (Breaks (Fails (M.fails_new below)) (suc allowed) l) }
+        // of what was made alone, and of no later value, so that no type can keep it
         ensures made { (l : List Sample) → ⟦<Allow<M> as Monitor>⟧.fails_now result l ≡ ⟦<Allow<M> as Monitor>⟧.fails_new result l }
     {
         Allow {

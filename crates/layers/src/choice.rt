@@ -4,6 +4,7 @@ ghost use Rattle.layers.specs.Laws.{choice_lasting, choice_none};
 use monitor::Monitor;
 use stream::Sample;
 
+// An enum of its own, and not the kit's `Either`: a layer has that name, and the impl would have to stand in the crate of the trait.
 /// One of two monitors, as where a layer may be left out: it fails where the one that it is does. Making it renews nothing.
 #[derive(Clone, Copy)]
 pub enum Choice<A, B> {

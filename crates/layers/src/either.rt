@@ -19,6 +19,7 @@ impl<A: Monitor, B: Monitor> Either<A, B> {
     /// The layer over two monitors that are begun as new.
     pub fn new(first: A, second: B) -> Either<A, B>
         ensures meaning { (l : List Sample) → Decides (⟦<Either<A, B> as Monitor>⟧.fails_new result l) (Both (Fails (A.fails_new first)) (Fails (B.fails_new second)) l) }
+        // of what was made alone, and of no later value, so that no type can keep it
         ensures made { (l : List Sample) → ⟦<Either<A, B> as Monitor>⟧.fails_now result l ≡ ⟦<Either<A, B> as Monitor>⟧.fails_new result l }
     {
         Either {

@@ -34,6 +34,7 @@ impl<P: Panel> Watch<P> {
     }
 
     /// Takes the words of a piece in turn, up to the first that is refused. Answers how many were taken, and the refusal if there is one.
+    // A pair, and no `Result`: that form is fixed, and so is that of `list`.
     pub fn deliver(&mut self, piece: &[u32]) -> (usize, Option<Refusal>)
         ensures delivered { Delivered (account P.count P.fails self.old) piece.now (account P.count P.fails self.new) result.0 result.1 }
         ensures numbered { NumbersRight }

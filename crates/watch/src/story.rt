@@ -76,6 +76,7 @@ pub fn play_into<P: Panel>(panel: P, calls: &[Call<'_>], answers: &mut [Answer])
     ensures rest { drop (length calls.now) answers.new ≡ drop (length calls.now) answers.old }
 {
     let mut watch = Watch::new(panel);
+    // An index into the answers, and no `zip` of `iter_mut`: tried, and the check then knew of no place in the list which it is.
     let count = calls.len().min(answers.len());
     for (i, call) in calls[0..count].iter().enumerate() {
         answers[i] = answer_to(&mut watch, call);

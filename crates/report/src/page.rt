@@ -1,7 +1,7 @@
 ghost use Rattle.std.specs.Prelude.{◌≤◌};
 
 /// The lines of a report as they are printed: each has 17 columns and its line end. There are at most 66: a header, 64 notices, a last line.
-// A buffer with its length, and not an ArrayVec: a page is copied freely, and an ArrayVec is not Copy and its clone can fail.
+// A buffer with its length: a page is `Copy`, which an `ArrayVec` is not, and its lines are bytes, of which an `ArrayString` would ask that they are text.
 #[derive(Clone, Copy)]
 pub struct Page {
     pub(crate) bytes: [u8; 1188],

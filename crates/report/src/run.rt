@@ -8,6 +8,7 @@ use stream::{Assembler, Refusal};
 use watch::Watch;
 
 /// How the reading of a trace ended.
+// Two named cases, and no `Result`: why a file could not be read is known where it is, and not here.
 #[derive(Clone, Copy)]
 pub enum Ending {
     /// At the end of the file.

@@ -72,7 +72,7 @@ impl Run {
     pub fn page(&self, end: Ending) -> Page
         ensures { WhereFollows self.now (λ text bytes. Reported text bytes end (bytes_on result)) }
     {
-        // room for every seat: `list` writes into a slice that it is lent
+        // Room for every seat, and a count: that `list` writes into a slice of its caller's is fixed.
         let mut notices = [Notice { seat: 0, number: 0 }; 64];
         let (written, _) = self.watch.list(&mut notices);
         let mut page = Page::new();

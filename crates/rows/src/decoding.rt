@@ -26,7 +26,7 @@ impl Decoder {
         };
         match self.feed.take(word)? {
             Some(numbered) => Ok(Some(Entry::Row(numbered.sample))),
-            // A type for the kinds would be made and read here alone: the feed, which knows them, answers no more than this.
+            // A number, and no type for the kinds: the feed takes words apart by a `match` on it with guards, whose form is fixed, and hands out no kind.
             None if word >> 30 == 3 => Ok(Some(Entry::End)),
             None => Ok(None),
         }

@@ -37,12 +37,10 @@ fn space_at(line: &[u8]) -> usize
 fn read_gap(word: &[u8]) -> Result<u32, Slip>
     ensures { ReadAs (λ g. g < 2 ^ 32) decimal word.now result }
 {
-    let Some((first, others)) = word.split_first() else {
-        return Err(Slip {
-            column: 0,
-            expected: Expected::Gap,
-        });
-    };
+    let (first, others) = word.split_first().ok_or(Slip {
+        column: 0,
+        expected: Expected::Gap,
+    })?;
     if *first == b'0' && !others.is_empty() {
         return Err(Slip {
             column: 1,

@@ -27,6 +27,7 @@ fn first_row(bytes: &[u8]) -> Option<Sample>
     ensures { (s : Sample) → Sendable s → bytes.now ≡ sample_bytes s → result ≡ Some s }
 {
     let mut decoder = Decoder::new();
+    // A loop, and no `find_map`, which was tried: of a closure that changes the decoder the check knows nothing afterwards.
     for byte in bytes {
         if let Some(sample) = row_in(decoder.push(*byte)) {
             return Some(sample);

@@ -15,6 +15,7 @@ pub struct Encoder {
     line: ArrayVec<u8, 36>,
     /// The number of the line, from 1.
     number: u64,
+    /// A flag, and no enum of two states: both keep the number of the line.
     ended: bool,
 }
 

@@ -1,5 +1,5 @@
 -- What a reading call promises.
-use Rattle.std.specs.Prelude.{◌≡◌, ℕ, ◌<◌, ◌≤◌, Bool, cond, List, length, Ok, Err, Result}
+use Rattle.std.specs.Prelude.{◌≡◌, ℕ, ◌+◌, ◌<◌, ◌≤◌, Bool, cond, List, ◌∷◌, length, Ok, Err, Result}
 use Rattle.grammar.specs.declared.fault.Fault.{Fault}
 use Rattle.grammar.specs.declared.fault.Fault.TheVariants.{AtWord}
 use Rattle.grammar.specs.declared.fault.Place.{Place}
@@ -19,6 +19,10 @@ left_of r = left r.line.now r.at
 -- the length of the reader's line
 abbrev pub len_of : Reader → ℕ
 len_of r = length r.line.now
+
+-- w is the word that comes next, and ends within the line
+abbrev pub NextIs : Reader → List ℕ → Type 0
+NextIs r w = (left_of r ≡ w ∷ left r.line.now (r.at + length w + 1)) × (r.at + length w ≤ len_of r)
 
 -- the place of a snag is in the line, or at its end
 abbrev pub Within : {X : Type 0} → ℕ → Result X Snag → Type 0

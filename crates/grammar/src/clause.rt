@@ -1,7 +1,7 @@
 ghost use Rattle.std.specs.Prelude.{◌≡◌, ◌<◌, ◌≤◌, ◌⊎◌, MatchOption};
 
 /// The number of a clause: 1 to 9,999.
-// A type of its own, and no instance of a bounded number: letters, limits and clause numbers have each another width, another bound and another answer to what is beyond it.
+// A type of its own: a generic number would take its integer, its bounds and its refusal from a trait, and each impl of that would be as long as this type.
 #[derive(Clone, Copy)]
 pub struct ClauseNumber {
     value: u16,

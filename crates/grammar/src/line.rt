@@ -70,7 +70,7 @@ impl<'a> Reader<'a> {
     fn body(&mut self) -> Result<Pattern, Snag>
         ensures { Reads self.old self.new result (read_body (left_of self.old)) }
     {
-        // No `match` on the word: each arm would have to take it as well, which `takes` does once.
+        // No `match` on the word, here and in `hold`: each arm would have to take it as well, which `takes` does once.
         if self.takes(Keyword::Never) {
             self.never()
         } else if self.takes(Keyword::Hold) {
@@ -98,7 +98,7 @@ impl<'a> Reader<'a> {
         Ok(Term { after, pattern })
     }
 
-    // `second` and `allow` are no calls of one method that takes a closure: its contract would name the reader between the two words, and be no plainer.
+    // `term`, `second` and `allow` ask for a word each by itself: of `takes(..).then(|| ..).transpose()` the proof did not close, since what the closure leaves of the reader has no name there.
     fn second(&mut self) -> Result<Option<Term>, Snag>
         ensures { Reads self.old self.new result (read_second (left_of self.old)) }
     {

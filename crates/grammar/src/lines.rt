@@ -61,6 +61,7 @@ fn read_ended(text: &[u8]) -> Result<ArrayVec<Line, 64>, Fault>
 }
 
 /// The number of the last of these lines, or 0.
+// 0, and no Option: it is below every clause number, so that the first line is held against it like any other.
 fn last_number(lines: &[Line]) -> u16
     ensures { result ≡ last_from 0 lines.now }
 {

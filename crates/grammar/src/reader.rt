@@ -2,7 +2,7 @@ ghost use Rattle.std.specs.Prelude.{◌≡◌, ◌+◌, ◌-◌, ◌<◌, ◌≤
 ghost use Rattle.grammar.specs.Words.{unwords, left};
 ghost use Rattle.grammar.specs.Tokens.{token_text, TokenIs};
 ghost use Rattle.grammar.specs.Reading.{bad, none_left, read_number, read_ticks, read_clause, read_signal, read_key, refuse};
-ghost use Rattle.grammar.specs.Contract.{left_of, len_of, Reads, Takes};
+ghost use Rattle.grammar.specs.Contract.{left_of, len_of, NextIs, Reads, Takes};
 
 use crate::clause::ClauseNumber;
 use crate::fault::Cause;
@@ -23,7 +23,7 @@ pub struct Reader<'a> {
 impl<'a> Reader<'a> {
     /// The next word, which stays.
     fn word(&self) -> Option<&'a [u8]>
-        ensures { MatchOption result (left_of self.now ≡ []) (λ w. (left_of self.now ≡ w.now ∷ left self.now.line.now (self.now.at + length w.now + 1)) × (self.now.at + length w.now ≤ len_of self.now)) }
+        ensures { MatchOption result (left_of self.now ≡ []) (λ w. NextIs self.now w.now) }
     {
         let rest = self.line.get(self.at..)?;
         Some(&rest[..length_to(rest, b' ')])
@@ -31,7 +31,7 @@ impl<'a> Reader<'a> {
 
     /// The next word by its kind; it stays.
     fn peek(&self) -> Option<Token<'a>>
-        ensures { MatchOption result (left_of self.now ≡ []) (λ t. TokenIs t × ((left_of self.now ≡ token_text t ∷ left self.now.line.now (self.now.at + length (token_text t) + 1)) × (self.now.at + length (token_text t) ≤ len_of self.now))) }
+        ensures { MatchOption result (left_of self.now ≡ []) (λ t. TokenIs t × NextIs self.now (token_text t)) }
     {
         self.word().map(Token::from)
     }

@@ -15,13 +15,15 @@ const LONG_BOOK: &[u8] =
 
 /// How many lines a text has, and the last number; or its fault's number, line and byte.
 fn read(text: &[u8]) -> Result<(usize, u16), (u8, usize, usize)> {
-    match read_lines(text) {
-        Ok(lines) => Ok((
-            lines.len(),
-            lines.last().map_or(0, |line| line.number.get()),
-        )),
-        Err(fault) => Err((fault.refusal().number(), fault.line(), fault.byte())),
-    }
+    let lines = read_lines(text).map_err(|fault| (
+        fault.refusal().number(),
+        fault.line(),
+        fault.byte(),
+    ))?;
+    Ok((
+        lines.len(),
+        lines.last().map_or(0, |line| line.number.get()),
+    ))
 }
 
 #[test]

@@ -36,6 +36,7 @@ impl Samples<'_> {
         (1..=self.0.len()).any(|i| (i..=self.0.len()).any(|j| so(i, j)))
     }
 
+    // A signal and a limit, as each sentence names them: no rule is judged by another's.
     /// Some i has p.
     fn never(self, p: Sign) -> bool {
         self.some(|i| self.has(i, p))

@@ -33,6 +33,7 @@ impl Product {
     }
 }
 
+// A `match` in each call: the product's refusal is known here by its number alone, and a number can be one that no call may give.
 impl Answers for Product {
     type Error = UnknownRefusal;
 

@@ -1,6 +1,6 @@
 //! Why a call is turned away, or a text is no book, as the second watch has it.
-use std::error::Error;
 use std::fmt;
+use thiserror::Error;
 
 /// The refusals, by the numbers that users know.
 #[derive(Clone, Copy, Debug, PartialEq, Eq, PartialOrd, Ord)]
@@ -48,7 +48,8 @@ const ALL: [Refusal; 18] = [
 ];
 
 /// A number that no call of a story, and no text, may be refused by.
-#[derive(Clone, Copy, Debug, PartialEq, Eq)]
+#[derive(Clone, Copy, Debug, PartialEq, Eq, Error)]
+#[error("refusal {0}, which no call here may have")]
 pub(crate) struct UnknownRefusal(u8);
 
 impl From<Refusal> for u8 {
@@ -72,11 +73,3 @@ impl fmt::Display for Refusal {
         write!(f, "refusal {}", u8::from(*self))
     }
 }
-
-impl fmt::Display for UnknownRefusal {
-    fn fmt<W: fmt::Write>(&self, f: &mut fmt::Formatter<W>) -> fmt::Result {
-        write!(f, "refusal {}, which no call here may have", self.0)
-    }
-}
-
-impl Error for UnknownRefusal {}

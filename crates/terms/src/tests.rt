@@ -26,12 +26,11 @@ fn numbers_beyond_sixteen_bits(rt: HostRuntime) -> Result<(), Fail> {
 #[test]
 fn what_was_expected(rt: HostRuntime) -> Result<(), Fail> {
     let text = b"3 never c\n12 answer a by b in 5\n";
-    match Book::new().read(text) {
-        Ok(()) => Err(Fail::new("read")),
-        Err(fault) => {
-            assert_eq!(rt; fault.line(), 2);
-            assert_eq!(rt; expected_at(text, fault), (18, "expected within"));
-            Ok(())
-        }
-    }
+    let fault = Book::new()
+        .read(text)
+        .err()
+        .ok_or_else(|| Fail::new("read"))?;
+    assert_eq!(rt; fault.line(), 2);
+    assert_eq!(rt; expected_at(text, fault), (18, "expected within"));
+    Ok(())
 }

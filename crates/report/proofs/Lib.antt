@@ -6,3 +6,4 @@ pub mod Openings
 pub mod Followed
 pub mod Printed
 pub mod Only
+pub mod Readers

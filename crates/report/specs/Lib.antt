@@ -1,3 +1,4 @@
 pub mod Stories
 pub mod Reports
 pub mod Runs
+pub mod Readers

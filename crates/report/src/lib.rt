@@ -7,11 +7,13 @@
 mod opening;
 mod page;
 mod printing;
+mod reading;
 mod reporting;
 mod run;
 mod running;
 
 pub use opening::{ClauseNumbers, open};
 pub use page::Page;
+pub use reading::read_text;
 pub use reporting::report;
 pub use run::{Ending, Run};

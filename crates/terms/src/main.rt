@@ -5,10 +5,12 @@
 
 mod expected;
 mod files;
+mod stop;
 #[cfg(test)]
 mod tests;
 
 use crate::files::Input;
+use crate::stop::Stop;
 use report::{Page, Run};
 use std::io::Write;
 use std::process::ExitCode;
@@ -40,33 +42,45 @@ at which it did), and DONE with the count of samples, or STOP with the number of
 which is explained on standard error. The status is 0 with DONE and 1 with STOP.
 ";
 
-fn print(rt: &HostRuntime, page: &Page) -> io::Result<()> {
-    rt.stdout().write_all(page.bytes())
-}
-
-/// Runs the trace through the watch of the book, prints the report, and says what a STOP means.
-fn watch_trace(trace: Input, mut run: Run) -> anyhow::Result<ExitCode> {
-    let end = trace.follow(&mut run);
-    print(trace.rt, &run.page(end))?;
-    match run.stop(end) {
-        None => Ok(ExitCode::SUCCESS),
-        Some(refusal) => trace.explain(refusal),
-    }
-}
-
-fn watch_files(terms: Input, trace: Input) -> anyhow::Result<ExitCode> {
+/// Reads the book and the trace, prints the report, and answers why it says STOP, if it does.
+fn watch_files<'a>(
+    terms: Input<'a>,
+    trace: Input<'a>,
+    out: &mut impl Write,
+) -> io::Result<Option<Stop<'a>>> {
     let Ok(text) = terms.text() else {
         let refusal = Refusal::UnreadableFile;
-        print(terms.rt, &Page::stopped(refusal))?;
-        return terms.explain(refusal);
+        out.write_all(Page::stopped(refusal).bytes())?;
+        let path = terms.path;
+        return Ok(Some(Stop::Refused { path, refusal }));
     };
-    match Run::new(text.as_slice()) {
-        Ok(run) => watch_trace(trace, run),
+    match Run::new(&text) {
+        Ok(run) => watch_trace(run, trace, out),
         Err(fault) => {
-            print(terms.rt, &Page::stopped(fault.refusal()))?;
-            terms.explain_fault(text.as_slice(), fault)
+            out.write_all(Page::stopped(fault.refusal()).bytes())?;
+            Ok(Some(Stop::at_fault(terms.path, &text, fault)))
         }
     }
+}
+
+fn watch_trace<'a>(
+    mut run: Run,
+    trace: Input<'a>,
+    out: &mut impl Write,
+) -> io::Result<Option<Stop<'a>>> {
+    let end = trace.follow(&mut run);
+    out.write_all(run.page(end).bytes())?;
+    let path = trace.path;
+    Ok(run.stop(end).map(|refusal| Stop::Refused { path, refusal }))
+}
+
+/// Says on standard error why the report says STOP, if it does, and gives the program's status.
+fn ended(rt: &HostRuntime, stop: Option<Stop>) -> anyhow::Result<ExitCode> {
+    let Some(stop) = stop else {
+        return Ok(ExitCode::SUCCESS);
+    };
+    eprintln!(rt; "terms: {stop}")?;
+    Ok(ExitCode::FAILURE)
 }
 
 fn main(rt: HostRuntime) -> anyhow::Result<ExitCode> {
@@ -90,5 +104,6 @@ fn main(rt: HostRuntime) -> anyhow::Result<ExitCode> {
         rt: &rt,
         path: trace.as_deref().unwrap_or(TRACE),
     };
-    watch_files(terms, trace)
+    let stop = watch_files(terms, trace, &mut rt.stdout())?;
+    ended(&rt, stop)
 }

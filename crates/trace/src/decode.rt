@@ -35,9 +35,10 @@ pub(crate) fn decode_file(rt: &HostRuntime, trace: &str) -> anyhow::Result<ExitC
     ended(rt, read)
 }
 
-fn decode_bytes<'a>(
+/// Writes the lines of words that are read, up to their end or the first that is refused.
+pub(crate) fn decode_bytes<'a>(
     trace: &'a str,
-    source: BufReader<File>,
+    source: impl Read + Drop,
     out: &mut impl Write,
 ) -> Result<(), Stop<'a>> {
     let mut decoder = Decoder::new();

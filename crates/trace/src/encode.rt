@@ -53,9 +53,10 @@ impl<'a> Encoding<'a> {
         BufWriter::new(rt.alloc(), File::create(rt, self.trace)?)
     }
 
-    fn encode_lines(
+    /// Writes the words of lines that are read, up to their end or the first fault.
+    pub(crate) fn encode_lines(
         self,
-        source: BufReader<File>,
+        source: impl Read + Drop,
         out: &mut impl Write,
     ) -> Result<(), Failure<'a>> {
         let mut encoder = Encoder::new();

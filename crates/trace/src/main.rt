@@ -8,6 +8,8 @@ mod decode;
 mod encode;
 mod fault;
 mod lines;
+#[cfg(test)]
+mod tests;
 
 use crate::decode::decode_file;
 use crate::encode::Encoding;

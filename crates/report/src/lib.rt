@@ -1,6 +1,6 @@
 //! What `terms` prints, as a promise on values: of every text and every trace, however its bytes are cut, every byte of the report.
 //! `open` makes a watch on the book of a text, and promises of every story that follows what the lines themselves say; `Run` goes through a
-//! trace piece by piece, and `report` does all of it at once.
+//! trace piece by piece, from bytes or from a file, and `report` does all of it at once.
 
 #![tactic(auto)]
 

@@ -27,16 +27,68 @@ fn numbers_beyond_sixteen_bits(rt: HostRuntime) -> Result<(), Fail> {
     Ok(())
 }
 
+/// What is said of the first fault of a text: its line and column, and what was expected there.
+fn expected_in(text: &[u8]) -> Option<(usize, usize, &'static str)> {
+    let fault = Book::new().read(text).err()?;
+    let (column, expected) = expected_at(text, fault);
+    Some((fault.line(), column, expected))
+}
+
+/// A word that fits nowhere, behind each front that a line can have.
 #[test]
-fn what_was_expected(rt: HostRuntime) -> Result<(), Fail> {
-    let text = b"3 never c\n12 answer a by b in 5\n";
-    let fault = Book::new()
-        .read(text)
-        .err()
-        .ok_or_else(|| Fail::new("read"))?;
-    assert_eq!(rt; fault.line(), 2);
-    assert_eq!(rt; expected_at(text, fault), (18, "expected within"));
-    Ok(())
+fn what_was_expected(rt: HostRuntime) {
+    let number = "expected a clause number from 1 to 9999";
+    let rule = "expected after, never, hold, repeat, answer or keep";
+    let body = "expected never, hold, repeat, answer or keep";
+    let signal = "expected a signal: a letter a to x or *, perhaps with ! before it";
+    let limit = "expected a time limit from 0 to 999999999";
+    let from = "expected from, a further rule (or), allow, or the end of the line";
+    let further = "expected one further rule at most (or), allow, or the end of the line";
+    let cases: [(&[u8], usize, &str); 26] = [
+        (b"?\n", 1, number),
+        (b"7 ?\n", 3, rule),
+        (b"7 after ?\n", 9, signal),
+        (b"7 after a ?\n", 11, body),
+        (b"7 never ?\n", 9, signal),
+        (b"7 never a ?\n", 11, from),
+        (b"7 never a from ?\n", 16, limit),
+        (b"7 never a from 5 ?\n", 18, further),
+        (b"7 hold ?\n", 8, signal),
+        (b"7 hold a ?\n", 10, "expected least or under"),
+        (b"7 hold a least ?\n", 16, limit),
+        (b"7 hold a under ?\n", 16, limit),
+        (b"7 repeat ?\n", 10, signal),
+        (b"7 repeat a ?\n", 12, "expected within"),
+        (b"7 repeat a within ?\n", 19, limit),
+        (b"7 answer ?\n", 10, signal),
+        (b"7 answer a ?\n", 12, "expected by"),
+        (b"7 answer a by ?\n", 15, signal),
+        (b"7 answer a by b ?\n", 17, "expected within"),
+        (b"7 keep a ?\n", 10, "expected for"),
+        (b"7 keep a for ?\n", 14, limit),
+        (b"7 keep a for 5 ?\n", 16, "expected since"),
+        (b"7 keep a for 5 since ?\n", 22, signal),
+        (b"7 never a or ?\n", 14, rule),
+        (b"7 never a allow ?\n", 17, "expected a number from 0 to 255"),
+        (b"7 never a allow 5 ?\n", 19, "expected the end of the line"),
+    ];
+    for (text, column, expected) in cases {
+        assert_eq!(rt; expected_in(text), Some((1, column, expected)));
+    }
+}
+
+/// The faults that are not at a word.
+#[test]
+fn what_was_expected_of_a_text(rt: HostRuntime) {
+    let cases: [(&[u8], usize, usize, &str); 4] = [
+        (b"", 1, 1, "expected at least one line"),
+        (&[b'a'; 8193], 1, 1, "expected at most 8192 bytes in all"),
+        (b"7 never a\n8 never", 2, 8, "expected a line end after the last line"),
+        (b"7 never a\n7 never a\n", 2, 1, "expected a number above that of the line before"),
+    ];
+    for (text, line, column, expected) in cases {
+        assert_eq!(rt; expected_in(text), Some((line, column, expected)));
+    }
 }
 
 /// What is printed of two files, and then what is said of a STOP.

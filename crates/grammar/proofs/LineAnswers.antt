@@ -12,7 +12,8 @@ use Rattle.grammar.specs.Words.{unwords, words_of, left}
 use Rattle.grammar.specs.Grammar.{Allowed, spell, NotAbove}
 use Rattle.grammar.specs.Books.{LineFault}
 use Rattle.grammar.specs.Contract.{Within, fault_of, ReadsLine}
-use Rattle.grammar.specs.Reading.{Ws, got, bad, and_then, outcome, read_clause, after_number}
+use Rattle.grammar.specs.Reading.{Ws, got, bad, and_then, outcome, read_clause}
+use Rattle.grammar.specs.Lines.{after_number}
 use Rattle.grammar.proofs.Cuts.{left_in}
 use Rattle.grammar.proofs.Spelled.{decimal_is}
 use Rattle.grammar.proofs.Parts.{never_bad, clause_leaf}

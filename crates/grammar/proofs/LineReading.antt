@@ -15,12 +15,17 @@ use Rattle.grammar.specs.Words.{unwords, words_of}
 use Rattle.grammar.specs.Numbers.{number_of}
 use Rattle.grammar.specs.Tokens.{keyword_of}
 use Rattle.grammar.specs.Grammar.{term_words, second_words, allow_words, line_words, Allowed, Begins, Because, Above, NotAbove, FirstFault}
-use Rattle.grammar.specs.Reading.{Ws, Read, got, bad, and_then, gives, made, read_number, read_clause, is_key, starts_by, if_next, read_term, further_term, read_second, allowance, read_allow, line_end, whole_line, after_allow, after_second, after_first, after_number, read_line}
+use Rattle.grammar.specs.Reading.{Ws, Read, got, bad, and_then, gives, made, read_number, read_clause, is_key, starts_by, if_next}
+use Rattle.grammar.specs.Lines.{read_term, further_term, read_second, allowance, read_allow, line_end, whole_line, after_allow, after_second, after_first, after_number}
 use Rattle.grammar.proofs.Spelled.{Digit, decimal_is, decimal_digits}
 use Rattle.grammar.proofs.Keys.{starts_digit}
 use Rattle.grammar.proofs.Stops.{Owed, Like, Halt, Near, then_bad, then_got, one_front, halt_first, halt_then, near_same, near_cons, halt_seen}
 use Rattle.grammar.proofs.Parts.{Tail, never_bad, map_tail, optional_tail, number_tail, read_number_lem, clause_leaf, leaf_front}
 use Rattle.grammar.proofs.Terms.{Fit, Said, term_tail, term_reads, term_seen}
+
+-- a line
+abbrev pub read_line : Ws → Read Line
+read_line ws = and_then (read_clause ws) after_number
 
 -- what was read is spelled so
 

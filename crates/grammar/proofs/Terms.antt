@@ -9,7 +9,9 @@ use Rattle.grammar.specs.declared.tree.Term.{Term}
 use Rattle.grammar.specs.declared.token.Keyword.TheVariants as K
 use Rattle.grammar.specs.Tokens.{keyword_of}
 use Rattle.grammar.specs.Grammar.{signal_word, pattern_words, term_words}
-use Rattle.grammar.specs.Reading.{Ws, got, and_then, made, refuse, read_ticks, read_signal, starts_by, if_next, read_key, timed, then_timed, never_tail, read_never, hold_tail, read_hold, repeat_tail, read_repeat, answer_within, answer_by, answer_tail, read_answer, keep_at, keep_since, keep_for, keep_tail, read_keep, read_body, term_of, after_tail, read_after, read_plain, read_term}
+use Rattle.grammar.specs.Reading.{Ws, got, and_then, made, refuse, read_ticks, read_signal, starts_by, if_next, read_key}
+use Rattle.grammar.specs.Bodies.{timed, then_timed, never_tail, read_never, hold_tail, read_hold, repeat_tail, read_repeat, answer_within, answer_by, answer_tail, read_answer, keep_at, keep_since, keep_for, keep_tail, read_keep, read_body}
+use Rattle.grammar.specs.Lines.{term_of, after_tail, read_after, read_plain, read_term}
 use Rattle.grammar.proofs.Keys.{starts_digit}
 use Rattle.grammar.proofs.Stops.{Like, Seen}
 use Rattle.grammar.proofs.Parts.{Tail, Choice, leaf_tail, made_tail, map_tail, if_choice, refuse_choice, map_choice, choice_tail, optional_tail, ticks_leaf, signal_leaf, key_leaf}

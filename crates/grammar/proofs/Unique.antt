@@ -14,10 +14,10 @@ use Rattle.monitor.specs.declared.pattern.Pattern.TheVariants.{Never, NeverFrom,
 use Rattle.grammar.specs.declared.tree.Term.{Term}
 use Rattle.grammar.specs.declared.tree.Line.{Line}
 use Rattle.grammar.specs.Words.{up_to, words_of, unwords}
-use Rattle.grammar.specs.Reading.{read_line, got}
+use Rattle.grammar.specs.Reading.{got}
 use Rattle.grammar.specs.Grammar.{source_byte, signal_word, pattern_words, after_words, term_words, second_words, allow_words, line_words, spell, Allowed}
 use Rattle.grammar.specs.Books.{book_text, Rising}
-use Rattle.grammar.proofs.LineReading.{line_reads}
+use Rattle.grammar.proofs.LineReading.{read_line, line_reads}
 
 -- no byte of the list is c
 abbrev pub Free : ℕ → List ℕ → Type 0

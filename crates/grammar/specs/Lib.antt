@@ -6,5 +6,7 @@ pub mod Seats
 pub mod Numbers
 pub mod Tokens
 pub mod Reading
+pub mod Bodies
+pub mod Lines
 pub mod Contract
 pub mod Unread

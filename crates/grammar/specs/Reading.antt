@@ -1,17 +1,12 @@
--- How words are read, one after another. That this reads exactly the lines that are spelled so is promised where a text is read.
+-- How words are read, one after another.
 use Rattle.std.specs.Prelude.{ℕ, ◌-◌, Bool, true, false, cond, List, [], ◌∷◌, length, Some, None, Ok, Err, Option, Result}
 use Rattle.stream.specs.declared.signal.Signal.{Signal}
 use Rattle.monitor.specs.declared.limit.Ticks.{Ticks}
-use Rattle.monitor.specs.declared.pattern.Pattern.{Pattern}
-use Rattle.monitor.specs.declared.pattern.Pattern.TheVariants.{Never, NeverFrom, HoldLeast, HoldUnder, Repeat, Answer, Keep}
 use Rattle.grammar.specs.declared.clause.ClauseNumber.{ClauseNumber}
-use Rattle.grammar.specs.declared.tree.Term.{Term}
-use Rattle.grammar.specs.declared.tree.Line.{Line}
 use Rattle.grammar.specs.declared.fault.Cause.{Cause}
 use Rattle.grammar.specs.declared.fault.Cause.TheVariants.{WordMissing, NumberOwed, WordNotAllowed}
 use Rattle.grammar.specs.declared.snag.Snag.{Snag}
 use Rattle.grammar.specs.declared.token.Keyword.{Keyword}
-use Rattle.grammar.specs.declared.token.Keyword.TheVariants as K
 use Rattle.grammar.specs.Words.{unwords}
 use Rattle.grammar.specs.Numbers.{number_of, ticks_of, clause_of}
 use Rattle.grammar.specs.Tokens.{same_key, keyword_of, signal_of}
@@ -96,144 +91,6 @@ if_next k a b ws = cond (starts_by k ws) (a (rest_of ws)) (b ws)
 -- a keyword that is owed
 abbrev pub read_key : Keyword → Ws → Read (Unit {0})
 read_key k = if_next k (gives tt) refuse
-
--- a body that ends with its limit
-abbrev pub timed : (Ticks → Pattern) → Ws → Read Pattern
-timed f ws = and_then (read_ticks ws) (made f)
-
--- the same, after a keyword
-abbrev pub then_timed : (Ticks → Pattern) → Unit {0} → Ws → Read Pattern
-then_timed f u ws = timed f ws
-
--- never p, and from T if it comes
-abbrev pub never_tail : Signal → Ws → Read Pattern
-never_tail p = if_next K.From (timed (NeverFrom p)) (gives (Never p))
-
--- what follows `never`
-abbrev pub read_never : Ws → Read Pattern
-read_never ws = and_then (read_signal ws) never_tail
-
--- hold p, and least T or under T
-abbrev pub hold_tail : Signal → Ws → Read Pattern
-hold_tail p = if_next K.Least (timed (HoldLeast p)) (if_next K.Under (timed (HoldUnder p)) refuse)
-
--- what follows `hold`
-abbrev pub read_hold : Ws → Read Pattern
-read_hold ws = and_then (read_signal ws) hold_tail
-
--- repeat p, and within T
-abbrev pub repeat_tail : Signal → Ws → Read Pattern
-repeat_tail p ws = and_then (read_key K.Within ws) (then_timed (Repeat p))
-
--- what follows `repeat`
-abbrev pub read_repeat : Ws → Read Pattern
-read_repeat ws = and_then (read_signal ws) repeat_tail
-
--- answer p by s, and within T
-abbrev pub answer_within : Signal → Signal → Ws → Read Pattern
-answer_within p s ws = and_then (read_key K.Within ws) (then_timed (Answer p s))
-
--- answer p by, and s
-abbrev pub answer_by : Signal → Unit {0} → Ws → Read Pattern
-answer_by p u ws = and_then (read_signal ws) (answer_within p)
-
--- answer p, and by
-abbrev pub answer_tail : Signal → Ws → Read Pattern
-answer_tail p ws = and_then (read_key K.By ws) (answer_by p)
-
--- what follows `answer`
-abbrev pub read_answer : Ws → Read Pattern
-read_answer ws = and_then (read_signal ws) answer_tail
-
--- keep s for T since, and p
-abbrev pub keep_at : Signal → Ticks → Unit {0} → Ws → Read Pattern
-keep_at s t u ws = and_then (read_signal ws) (made (Keep s t))
-
--- keep s for T, and since
-abbrev pub keep_since : Signal → Ticks → Ws → Read Pattern
-keep_since s t ws = and_then (read_key K.Since ws) (keep_at s t)
-
--- keep s for, and T
-abbrev pub keep_for : Signal → Unit {0} → Ws → Read Pattern
-keep_for s u ws = and_then (read_ticks ws) (keep_since s)
-
--- keep s, and for
-abbrev pub keep_tail : Signal → Ws → Read Pattern
-keep_tail s ws = and_then (read_key K.For ws) (keep_for s)
-
--- what follows `keep`
-abbrev pub read_keep : Ws → Read Pattern
-read_keep ws = and_then (read_signal ws) keep_tail
-
--- a body, by its first word
-abbrev pub read_body : Ws → Read Pattern
-read_body =
-    if_next K.Never read_never (if_next K.Hold read_hold (if_next K.Repeat read_repeat (if_next K.Answer read_answer (if_next K.Keep read_keep refuse))))
-
--- a rule of its two parts
-abbrev pub term_of : Option Signal → Pattern → Term
-term_of a p = record { after = a; pattern = p }
-
--- the body of a rule that waits for s
-abbrev pub after_tail : Signal → Ws → Read Term
-after_tail s ws = and_then (read_body ws) (made (term_of (Some s)))
-
--- what follows `after`
-abbrev pub read_after : Ws → Read Term
-read_after ws = and_then (read_signal ws) after_tail
-
--- a rule that waits for nothing
-abbrev pub read_plain : Ws → Read Term
-read_plain ws = and_then (read_body ws) (made (term_of None))
-
--- a rule
-abbrev pub read_term : Ws → Read Term
-read_term = if_next K.After read_after read_plain
-
--- what follows `or`
-abbrev pub further_term : Ws → Read (Option Term)
-further_term ws = and_then (read_term ws) (made Some)
-
--- the further rule, if it comes
-abbrev pub read_second : Ws → Read (Option Term)
-read_second = if_next K.Or further_term (gives None)
-
--- what follows `allow`
-abbrev pub allowance : Ws → Read (Option ℕ)
-allowance ws = and_then (read_number 0 255 ws) (made Some)
-
--- the allowance, if it comes
-abbrev pub read_allow : Ws → Read (Option ℕ)
-read_allow = if_next K.Allow allowance (gives None)
-
--- the line, if no word is left
-abbrev pub line_end : Line → Ws → Read Line
-line_end l [] = got l []
-line_end l (w ∷ ws) = bad WordNotAllowed (length (unwords (w ∷ ws)))
-
--- a line of its four parts
-abbrev pub whole_line : ClauseNumber → Term → Option Term → Option ℕ → Line
-whole_line n f s a = record { number = n; first = f; second = s; allow = a }
-
--- what follows the allowance: the end
-abbrev pub after_allow : ClauseNumber → Term → Option Term → Option ℕ → Ws → Read Line
-after_allow n f s a ws = line_end (whole_line n f s a) ws
-
--- what follows the rules
-abbrev pub after_second : ClauseNumber → Term → Option Term → Ws → Read Line
-after_second n f s ws = and_then (read_allow ws) (after_allow n f s)
-
--- what follows the first rule
-abbrev pub after_first : ClauseNumber → Term → Ws → Read Line
-after_first n f ws = and_then (read_second ws) (after_second n f)
-
--- what follows the clause number
-abbrev pub after_number : ClauseNumber → Ws → Read Line
-after_number n ws = and_then (read_term ws) (after_first n)
-
--- a line
-abbrev pub read_line : Ws → Read Line
-read_line ws = and_then (read_clause ws) after_number
 
 -- what a call answered, as reading: `after` is what it left
 abbrev pub outcome : {X : Type 0} → ℕ → Ws → Result X Snag → Read X

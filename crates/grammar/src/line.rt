@@ -1,4 +1,5 @@
-ghost use Rattle.grammar.specs.Reading.{read_never, read_hold, read_repeat, read_answer, read_keep, read_body, read_term, read_second, read_allow, line_end, after_number};
+ghost use Rattle.grammar.specs.Bodies.{read_never, read_hold, read_repeat, read_answer, read_keep, read_body};
+ghost use Rattle.grammar.specs.Lines.{read_term, read_second, read_allow, line_end, after_number};
 ghost use Rattle.grammar.specs.Contract.{left_of, Reads};
 
 use crate::clause::ClauseNumber;

@@ -1,6 +1,6 @@
 -- A clause that fails keeps failing, and a new one does not fail on no samples; a seat that is lost is within the count and stays lost.
-use Rattle.std.specs.Prelude.{◌≡◌, ℕ, zero, suc, ◌≤◌, true, false, List, [], ◌++◌, length, take, None, Some, Option, refl}
-use Rattle.std.proofs.Common.{sym, ap, ◌∙◌, ⊎_elim, arith, length-take}
+use Rattle.std.specs.Prelude.{◌≡◌, ℕ, zero, suc, ◌≤◌, true, false, List, [], ◌++◌, length, None, Some, Option, refl}
+use Rattle.std.proofs.Common.{sym, ap, ◌∙◌, ⊎_elim, arith}
 use Rattle.std.specs.List.{slice_get}
 use Rattle.std.proofs.lemmas.Bool.{cases_lt, false≢true}
 use Rattle.std.proofs.lemmas.Option.{slice_get_past}
@@ -41,10 +41,6 @@ clause_lasting_new m = allow_lasting_new fresh_body body_lasting_new m.body
 
 pub clause_starts : (m : Clause) → fresh_clause m [] ≡ false
 clause_starts m = allow_none fresh_body body_starts m.body
-
--- the first n elements of a list have none at a place from n on
-pub nth_beyond : {T : Type 0} (n : ℕ) (xs : List T) (k : ℕ) → n ≤ k → slice_get (take n xs) k ≡ None
-nth_beyond n xs k h = slice_get_past (take n xs) k (omega (arith, length-take n xs))
 
 -- what a seat answers is lasting, and none past the count is lost
 pub at_lasting : (c : Option Clause) (l h : List Sample) → fails_at c l ≡ true → fails_at c (l ++ h) ≡ true

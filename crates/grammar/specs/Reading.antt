@@ -1,4 +1,4 @@
--- How words are read, one after another.
+-- How words are read, one after another. By this the pages Bodies and Lines say how a line is read, and where the same is promised in other words.
 use Rattle.std.specs.Prelude.{ℕ, ◌-◌, Bool, true, false, cond, List, [], ◌∷◌, length, Some, None, Ok, Err, Option, Result}
 use Rattle.stream.specs.declared.signal.Signal.{Signal}
 use Rattle.monitor.specs.declared.limit.Ticks.{Ticks}

@@ -46,7 +46,7 @@ abbrev pub second_words : Option Term → List (List ℕ)
 second_words None = []
 second_words (Some t) = codes "or" ∷ term_words t
 
--- how many losses are allowed
+-- how many failures are allowed
 abbrev pub allow_words : Option ℕ → List (List ℕ)
 allow_words None = []
 allow_words (Some n) = codes "allow" ∷ decimal n ∷ []

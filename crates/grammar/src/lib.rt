@@ -1,5 +1,6 @@
 //! The book of terms: its tree and its text.
 //! A text is read exactly if it is the spelling of a book's lines, and any other has one fault, which is told with its place.
+//! The line of a seat is handed out as the part of the text that it is.
 
 #![tactic(auto)]
 

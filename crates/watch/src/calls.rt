@@ -1,9 +1,11 @@
 ghost use Rattle.std.specs.Prelude.{◌≡◌, ℕ, ◌≤◌, List, [], ◌∷◌, length, if◌then◌else◌, Some, None};
+ghost use Rattle.std.specs.Ordering.{MatchOrdering};
 ghost use Rattle.stream.specs.declared.sample.Sample.{Sample};
 ghost use Rattle.watch.specs.Falls.{NumbersRight};
 ghost use Rattle.watch.specs.Ledgers.{number_of, collected_of};
 ghost use Rattle.watch.specs.Losses.{first_of};
-ghost use Rattle.watch.specs.Order.{OneWaiting};
+ghost use Rattle.watch.specs.declared.notice.Notice.{Notice};
+ghost use Rattle.watch.specs.Order.{Before, OneWaiting};
 ghost use Rattle.watch.specs.Account.{account, Made, Opened, Delivered, Collected, Listed};
 ghost use Rattle.watch.specs.Words.{taken_by, refusal_in};
 
@@ -89,6 +91,7 @@ impl<P: Panel> Watch<P> {
         ensures listed { Listed (account P.count P.fails self.now) out.old out.new result.0 result.1 }
         ensures few { (result.0 ≤ length out.old) × (result.1 ≤ 64) }
         ensures only { OneWaiting }
+        ensures compare { (a b : Notice) → MatchOrdering (⟦<Notice as Ord>⟧.cmp a b) (Before a b) (a ≡ b) (Before b a) }
     {
         self.ledger.list(out)
     }

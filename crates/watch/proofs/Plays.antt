@@ -1,31 +1,38 @@
 -- Calls and answers by their places, and what a listing in a story shows.
-use Rattle.std.proofs.Common.{◌≡◌, ℕ, ◌+◌, ◌<◌, ◌≤◌, min, Bool, List, [], ◌∷◌, ◌++◌, length, get_or, take, drop, set, Option, sym, ap, ◌∙◌, subst, ⊎_elim, arith}
-use Rattle.std.proofs.lemmas.List.{append_assoc, take_at, take_all, take_more, take_more_set, drop_all, drop-set-lt, drop-drop, length-take-le}
+use Rattle.std.proofs.Common.{◌≡◌, ℕ, ◌+◌, ◌-◌, ◌<◌, ◌≤◌, min, Bool, List, [], ◌∷◌, ◌++◌, length, get_or, take, drop, set, replicate, Option, sym, ap, ap₂, ◌∙◌, subst, ⊎_elim, arith}
+use Rattle.std.proofs.lemmas.List.{append_assoc, take_all, take_more, take_more_set, drop_all, drop-set-lt, drop-drop, drop-replicate, length-replicate, replicate-append-replicate}
 use Rattle.std.proofs.lemmas.Bool.{cases_lt}
 use Rattle.watch.specs.declared.notice.Notice.{Notice}
 use Rattle.watch.specs.declared.story.Call.{Call}
 use Rattle.watch.specs.declared.story.Answer.{Answer}
 use Rattle.watch.specs.Order.{Waits, Listing}
 use Rattle.watch.specs.Account.{Account}
-use Rattle.watch.specs.Calls.{Shows}
+use Rattle.watch.specs.Calls.{Shows, blank}
 use Rattle.watch.specs.Chains.{Step, Chain, link}
 
--- a listing into the front of a longer list
-pub looked : (number : ℕ → Option ℕ) (collected : ℕ → Bool) (room : ℕ) (before after tail : List Notice) (written waiting : ℕ)
-    → Listing number collected before after written waiting → waiting ≤ 64 → length before ≡ min room 64
+-- a listing into the front of 64 blanks
+pub looked : (number : ℕ → Option ℕ) (collected : ℕ → Bool) (room reach : ℕ) (before after tail : List Notice) (written waiting : ℕ)
+    → Listing number collected before after written waiting → waiting ≤ 64 → reach ≡ min room 64
+    → before ≡ replicate reach blank → tail ≡ replicate (64 - reach) blank
     → (ns : List Notice) × Waits number collected ns × Shows ns room (after ++ tail) written waiting
-looked number collected room before after tail written waiting l few long = (
-  l.notices,
-  l.right,
-  record {
-    all = l.all;
-    reach = omega (arith, l.room);
-    shown =
-        ap (λ (z : List Notice). take written (z ++ tail)) l.list
-        ∙ ap (take written) (append_assoc (take written l.notices) (drop written before) tail)
-        ∙ take_at (take written l.notices) (drop written before ++ tail) written (length-take-le written l.notices (omega (arith, l.room, l.all)));
-  },
-)
+looked number collected room reach before after tail written waiting l few long front rest =
+    let wide : length before ≡ reach = ap length front ∙ length-replicate reach blank in
+    let all : reach - written + (64 - reach) ≡ 64 - written = omega (arith, l.room) in (
+      l.notices,
+      l.right,
+      record {
+        all = l.all;
+        reach = omega (arith, l.room);
+        shown =
+            ap (λ (z : List Notice). z ++ tail) l.list
+            ∙ append_assoc (take written l.notices) (drop written before) tail
+            ∙ ap (λ (z : List Notice). take written l.notices ++ z)
+            (ap₂ (λ (y z : List Notice). drop written y ++ z) front rest
+            ∙ ap (λ (z : List Notice). z ++ replicate (64 - reach) blank) (drop-replicate written reach blank)
+            ∙ replicate-append-replicate (reach - written) (64 - reach) blank
+            ∙ ap (λ (n : ℕ). replicate n blank) all);
+      },
+    )
 
 -- one call more was made and answered at its place
 pub placed : (a b c : Account) (calls : List Call) (answers before : List Answer) (i : ℕ) (d : Call) (r : Answer) → i < length calls → i < length answers

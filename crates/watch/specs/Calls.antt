@@ -1,5 +1,5 @@
 -- Calls of a watch, and what settles the samples that they take.
-use Rattle.std.specs.Prelude.{◌≡◌, ℕ, min, List, [], ◌∷◌, ◌++◌, length, take, Ok, Err, Option, Result}
+use Rattle.std.specs.Prelude.{◌≡◌, ℕ, ◌-◌, min, List, [], ◌∷◌, ◌++◌, length, take, replicate, Ok, Err, Option, Result}
 use Rattle.stream.specs.declared.refusal.Refusal.{Refusal}
 use Rattle.stream.specs.declared.numbered.Numbered.{Numbered}
 use Rattle.stream.specs.Words.{State, unread, state_by, begin_refusal, numbered_from, feeding}
@@ -71,11 +71,15 @@ Matched call.Collect (answer.Taken n r) B D L C = ⊥
 Matched call.Collect (answer.Listed out written waiting) B D L C = ⊥
 Matched call.Collect (answer.Collected r) B D L C = C r
 
--- list was called with so much room: the first notices that wait were written, as far as there was room
+-- what stands in an answer where no notice was written
+abbrev pub blank : Notice
+blank = record { number = 0; seat = 0 }
+
+-- list was called with so much room: the first notices that wait were written, as far as there was room, and blanks stand behind them
 pub record Shows (ns : List Notice) (room : ℕ) (out : List Notice) (written waiting : ℕ) : Type 0 where
   pub all : waiting ≡ length ns
   pub reach : written ≡ min waiting room
-  pub shown : take written out ≡ take written ns
+  pub shown : out ≡ take written ns ++ replicate (64 - written) blank
 
 abbrev pub Looked : Account → ℕ → List Notice → ℕ → ℕ → Type 0
 Looked a room out written waiting = (ns : List Notice) × Waits a.number a.collected ns × Shows ns room out written waiting

@@ -18,7 +18,7 @@ pub enum Call<'a> {
     Collect,
 }
 
-/// What was answered to a call. Of a listing, `out` has the notices that were written.
+/// What was answered to a call. Of a listing, `out` has the notices that were written, and behind them blanks, of number 0 and seat 0.
 #[derive(Clone, Copy)]
 pub enum Answer {
     Begun(Result<(), Refusal>),

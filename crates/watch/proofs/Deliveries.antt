@@ -87,9 +87,6 @@ stopped a b ws vs n r p =
 abbrev pub Rest : Account → List ℕ → Account → ℕ → List ℕ → Type 0
 Rest a all b n ws = (c : Account) (m : ℕ) (r : Option Refusal) → Delivered b ws c m r → Delivered a all c (n + m) r
 
-pub rest_start : (a : Account) (all : List ℕ) → Rest a all a 0 all
-rest_start a all c m r d = let z : m ≡ 0 + m = omega arith in subst (λ (t : ℕ). Delivered a all c t r) z d
-
 pub rest_end : (a : Account) (all : List ℕ) (b : Account) (n : ℕ) → Rest a all b n [] → Delivered a all b n None
 rest_end a all b n h = let z : n + 0 ≡ n = omega arith in subst (λ (t : ℕ). Delivered a all b t None) z (h b 0 None (nothing b))
 

@@ -1,7 +1,7 @@
 -- The numbers of seats in a ledger, one seat after another.
-use Rattle.std.proofs.Common.{◌≡◌, ℕ, zero, suc, ◌+◌, ◌-◌, ◌<◌, ◌≤◌, Bool, true, false, cond, not, ◌&&◌, ◌||◌, eqb, leb, ◌≢◌, List, length, get_or, set, replicate, Some, None, sym, refl, ◌∙◌, subst, ⊎_elim, arith, length-set, get_or-set_other, get_or-set_same}
+use Rattle.std.proofs.Common.{◌≡◌, ℕ, zero, suc, ◌-◌, ◌<◌, ◌≤◌, Bool, true, false, cond, not, ◌&&◌, ◌||◌, eqb, leb, List, length, get_or, replicate, Some, None, sym, refl, ◌∙◌, ⊎_elim, arith}
 use mathlib.Core.Bool.{and-false}
-use Rattle.std.proofs.lemmas.Bool.{and_parts, leb-true, cases_lt, cond-true, cond-false, eqb-true, le-leb}
+use Rattle.std.proofs.lemmas.Bool.{and_parts, leb-true, cases_lt, cond-false, eqb-true, le-leb}
 use Rattle.panel.specs.declared.seats.Seats.{Seats}
 use Rattle.panel.specs.Seating.{is_seat, has_seat}
 use Rattle.watch.specs.declared.ledger.Ledger.{Ledger}
@@ -31,31 +31,6 @@ module _ (seats : Seats) (number : ℕ) (old : List ℕ) where
     pub long : length now ≡ 64
     pub below : (k : ℕ) → 1 ≤ k → k < s → get_or now (k - 1) 0 ≡ cond (has_seat seats k) number (get_or old (k - 1) 0)
     pub above : (k : ℕ) → s ≤ k → get_or now (k - 1) 0 ≡ get_or old (k - 1) 0
-
-  pub given_yes : (s : ℕ) (now : List ℕ) → 1 ≤ s → s ≤ 64 → has_seat seats s ≡ true → Given s now → Given (s + 1) (set now (s - 1) number)
-  given_yes s now lo hi e g =
-      let other : (k : ℕ) → 1 ≤ k → k ≢ s → get_or (set now (s - 1) number) (k - 1) 0 ≡ get_or now (k - 1) 0 =
-      λ k a ne. get_or-set_other now (s - 1) (k - 1) number 0 (λ z. ne (omega arith)) in
-      record {
-        long = length-set now (s - 1) number ∙ g.long;
-        below = λ k a b. ⊎_elim
-            (λ lt. other k a (λ z. omega arith) ∙ g.below k a lt)
-            (λ ge. let same : s ≡ k = omega arith in
-            let lt : s - 1 < length now = omega (arith, g.long) in
-            subst (λ j. get_or (set now (s - 1) number) (j - 1) 0 ≡ cond (has_seat seats j) number (get_or old (j - 1) 0)) same (get_or-set_same now (s - 1) number 0 lt ∙ sym (cond-true (has_seat seats s) number (get_or old (s - 1) 0) e)))
-            (cases_lt k s);
-        above = λ k a. other k (omega arith) (λ z. omega arith) ∙ g.above k (omega arith);
-      }
-
-  pub given_no : (s : ℕ) (now : List ℕ) → has_seat seats s ≡ false → Given s now → Given (s + 1) now
-  given_no s now e g = record {
-    long = g.long;
-    below = λ k a b. ⊎_elim (g.below k a)
-        (λ ge. let same : s ≡ k = omega arith in
-        subst (λ j. get_or now (j - 1) 0 ≡ cond (has_seat seats j) number (get_or old (j - 1) 0)) same (g.above s (omega arith) ∙ sym (cond-false _ _ _ e)))
-        (cases_lt k s);
-    above = λ k a. g.above k (omega arith);
-  }
 
   pub given_all : (now : List ℕ) (k : ℕ) → Given 65 now → 1 ≤ k → get_or now (k - 1) 0 ≡ cond (has_seat seats k) number (get_or old (k - 1) 0)
   given_all now k g lo =

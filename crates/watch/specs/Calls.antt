@@ -81,5 +81,6 @@ pub record Shows (ns : List Notice) (room : ℕ) (out : List Notice) (written wa
   pub reach : written ≡ min waiting room
   pub shown : out ≡ take written ns ++ replicate (64 - written) blank
 
+-- the same of a watch, by the notices that wait there
 abbrev pub Looked : Account → ℕ → List Notice → ℕ → ℕ → Type 0
 Looked a room out written waiting = (ns : List Notice) × Waits a.number a.collected ns × Shows ns room out written waiting

@@ -33,7 +33,7 @@ length_bytes (w ∷ ws) = length-append (bytes_of (Some w)) (word_bytes ws) ∙ 
 abbrev pub sent_words : List Sample → List ℕ
 sent_words ss = flat_map (λ s. sample_words s.gap s.letters) ss
 
-trace_words : (ss : List Sample) → trace_of ss ≡ word_bytes (sent_words ss)
+pub trace_words : (ss : List Sample) → trace_of ss ≡ word_bytes (sent_words ss)
 trace_words [] = refl
 trace_words (s ∷ ss) = ap (λ (l : List ℕ). sample_bytes s ++ l) (trace_words ss) ∙ sym (flat_map-append (λ w. bytes_of (Some w)) (sample_words s.gap s.letters) (sent_words ss))
 
@@ -68,10 +68,11 @@ pub record AllBack (ss : List Sample) (fed : Fed) : Type 0 where
   pub taken : fed.refused ≡ None
   pub count : fed.count ≡ length (sent_words ss)
   pub samples : map (λ x. x.sample) fed.samples ≡ ss
+  pub going : fed.state.ended ≡ false
 
 words_come_back : (ss : List Sample) (s : State) → AllByRecursion Sendable ss → s.pending ≡ 0 → s.ended ≡ false → s.next + length ss ≤ last_number + 1 → AllBack ss (feeding s (sent_words ss))
 unfolding feeding
-words_come_back [] s hs p e n = record { taken = refl; count = refl; samples = refl }
+words_come_back [] s hs p e n = record { taken = refl; count = refl; samples = refl; going = e }
 words_come_back (x ∷ ss) s hs p e n =
     let ws = sample_words x.gap x.letters in
     let one = reads_back x.gap x.letters hs.0 x.low s p e (omega arith) in
@@ -83,17 +84,21 @@ words_come_back (x ∷ ss) s hs p e n =
       taken = rest.taken;
       count = sym (length-append ws (sent_words ss) ∙ ap (λ (k : ℕ). length ws + k) (sym rest.count));
       samples = (λ i. same i ∷ rest.samples i);
+      going = rest.going;
     })
+
+pub trace_comes_back : (ss : List Sample) → AllByRecursion Sendable ss → length ss ≤ last_number → AllBack ss (fed_by (trace_of ss))
+trace_comes_back ss hs n =
+    let words : words_in (trace_of ss) ≡ sent_words ss = ap words_in (trace_words ss) ∙ words_back (sent_words ss) in
+    subst (AllBack ss) (sym (ap (feeding unread) words)) (words_come_back ss unread hs refl refl (omega arith))
 
 pub traces_come_back : TracesComeBack
 traces_come_back ss hs n =
-    let back = words_come_back ss unread hs refl refl (omega arith) in
-    let words : words_in (trace_of ss) ≡ sent_words ss = ap words_in (trace_words ss) ∙ words_back (sent_words ss) in
-    let fed = ap (feeding unread) words in
+    let back = trace_comes_back ss hs n in
     record {
-      taken = ap (λ (f : Fed). f.refused) fed ∙ back.taken;
-      whole = ap length (trace_words ss) ∙ length_bytes (sent_words ss) ∙ ap (λ (k : ℕ). 4 * k) (sym (ap (λ (f : Fed). f.count) fed ∙ back.count));
-      samples = ap (λ (f : Fed). map (λ (x : Numbered). x.sample) f.samples) fed ∙ back.samples;
+      taken = back.taken;
+      whole = ap length (trace_words ss) ∙ length_bytes (sent_words ss) ∙ ap (λ (k : ℕ). 4 * k) (sym back.count);
+      samples = back.samples;
     }
 
 -- one sample alone

@@ -5,3 +5,4 @@ pub mod Readings
 pub mod Tellings
 pub mod Feedings
 pub mod Trips
+pub mod Decodings

@@ -68,10 +68,11 @@ module _ (s : Sample) (w : ℕ) (st : State) (rest : Fed) where
   stepped None m p = (refl, taken m p)
 
 -- one byte
-module _ (s : Sample) (d : Decoder) (byte : ℕ) (r : Result (Option Entry) Refusal) (e : Decoder) (rest : List ℕ) where
-  joins : (o : Option ℕ) → bytes_of o ++ held_by e.held ≡ held_by d.held ++ (byte ∷ []) → held_by d.held ++ (byte ∷ rest) ≡ bytes_of o ++ (held_by e.held ++ rest)
+module _ (d e : Decoder) (byte : ℕ) (rest : List ℕ) where
+  pub joins : (o : Option ℕ) → bytes_of o ++ held_by e.held ≡ held_by d.held ++ (byte ∷ []) → held_by d.held ++ (byte ∷ rest) ≡ bytes_of o ++ (held_by e.held ++ rest)
   joins o b = sym (append_assoc (held_by d.held) (byte ∷ []) rest) ∙ ap (λ (l : List ℕ). l ++ rest) (sym b) ∙ append_assoc (bytes_of o) (held_by e.held) rest
 
+module _ (s : Sample) (d : Decoder) (byte : ℕ) (r : Result (Option Entry) Refusal) (e : Decoder) (rest : List ℕ) where
   pub steps : Pushed d byte r e → OnlyRow s (ahead d (byte ∷ rest)) → Step s r (ahead e rest)
   unfolding feeding
   steps p o = go p.word p.bytes p.took
@@ -81,14 +82,14 @@ module _ (s : Sample) (d : Decoder) (byte : ℕ) (r : Result (Option Entry) Refu
 
       go : (w : Option ℕ) → bytes_of w ++ held_by e.held ≡ held_by d.held ++ (byte ∷ []) → TookAny w st r (state_of e.feed) → Step s r (ahead e rest)
       go None b t =
-          let same : ahead d (byte ∷ rest) ≡ ahead e rest = (λ i. feeding (sym t.1 i) (words_in (joins None b i))) in
+          let same : ahead d (byte ∷ rest) ≡ ahead e rest = (λ i. feeding (sym t.1 i) (words_in (joins d e byte rest None b i))) in
           record {
             row = λ x is. absurd (some_none x (sym (ap row_in t.0) ∙ is));
             coming = λ no. subst (OnlyRow s) same o;
           }
       go (Some w) b t =
           let later = words_in (held_by e.held ++ rest) in
-          let words : words_in (held_by d.held ++ (byte ∷ rest)) ≡ w ∷ later = ap words_in (joins (Some w) b) ∙ word_first w (held_by e.held ++ rest) in
+          let words : words_in (held_by d.held ++ (byte ∷ rest)) ≡ w ∷ later = ap words_in (joins d e byte rest (Some w) b) ∙ word_first w (held_by e.held ++ rest) in
           let first = stepped s w st (feeding (after st w) later) (refusal st w) (made st w) (subst (OnlyRow s) (ap (feeding st) words) o) in
           let state : after st w ≡ state_of e.feed = sym (t.took.state ∙ ap (λ q. state_by q st (after st w)) first.0) in
           let answer : entry_of w (answer_by (refusal st w) (made st w)) ≡ r = sym (t.entry ∙ ap (entry_of w) t.took.answer) in

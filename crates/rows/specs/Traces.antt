@@ -1,11 +1,12 @@
 -- Samples as the bytes of a trace, and what is read of bytes.
 use Rattle.std.specs.Prelude.{◌≡◌, ℕ, ◌*◌, ◌≤◌, cond, List, [], ◌∷◌, ◌++◌, map, length, Some, None, Ok, Err, Option, Result, MatchResult, ◌==◌}
 use Rattle.std.specs.List.{flat_map, AllByRecursion}
+use Rattle.std.specs.Option.{option_to_list}
 use Rattle.stream.specs.declared.refusal.Refusal.{Refusal}
 use Rattle.stream.specs.declared.sample.Sample.{Sample}
 use Rattle.stream.specs.declared.numbered.Numbered.{Numbered}
 use Rattle.stream.specs.Bytes.{held_by, bytes_of}
-use Rattle.stream.specs.Words.{State, state_of, kind, last_number, Took}
+use Rattle.stream.specs.Words.{State, state_of, unread, kind, last_number, Took}
 use Rattle.stream.specs.Sending.{sample_words}
 use Rattle.stream.specs.Traces.{fed_by}
 use Rattle.arrayvec.specs.ArrayString.{ArrayString}
@@ -70,6 +71,22 @@ row_in (Ok (Some End)) = None
 row_in (Ok None) = None
 row_in (Err e) = None
 
+-- the entry in it, and the refusal, if it is one
+abbrev pub entry_in : Result (Option Entry) Refusal → Option Entry
+entry_in (Ok x) = x
+entry_in (Err e) = None
+
+abbrev pub refusal_in : Result (Option Entry) Refusal → Option Refusal
+refusal_in (Ok x) = None
+refusal_in (Err e) = Some e
+
+-- bytes are given to the decoder d in turn: it answers each so, and behind them it is e
+abbrev pub PushedAll : Decoder → List ℕ → List (Result (Option Entry) Refusal) → Decoder → Type 0
+PushedAll d [] [] e = d ≡ e
+PushedAll d [] (r ∷ rs) e = ⊥
+PushedAll d (b ∷ bs) [] e = ⊥
+PushedAll d (b ∷ bs) (r ∷ rs) e = (c : Decoder) × Pushed d b r c × PushedAll c bs rs e
+
 -- all words are taken, no byte is left over, and the samples are these
 pub record Back (ss : List Sample) (bytes : List ℕ) : Type 0 where
   pub taken : (fed_by bytes).refused ≡ None
@@ -79,6 +96,17 @@ pub record Back (ss : List Sample) (bytes : List ℕ) : Type 0 where
 -- what is sent comes back, as long as there are numbers for it
 abbrev pub TracesComeBack : Type 0
 TracesComeBack = (ss : List Sample) → AllByRecursion Sendable ss → length ss ≤ last_number → Back ss (trace_of ss)
+
+-- a decoder answered the rows of these samples and nothing else, refused nothing, and holds no byte
+pub record Decoded (ss : List Sample) (rs : List (Result (Option Entry) Refusal)) (e : Decoder) : Type 0 where
+  pub entries : flat_map (λ r. option_to_list (entry_in r)) rs ≡ map Row ss
+  pub refused : flat_map (λ r. option_to_list (refusal_in r)) rs ≡ []
+  pub whole : held_by e.held ≡ []
+
+-- a new decoder makes of what is sent its samples, as long as there are numbers for them
+abbrev pub DecodersAnswer : Type 0
+DecodersAnswer = (ss : List Sample) → AllByRecursion Sendable ss → length ss ≤ last_number → (d e : Decoder) (rs : List (Result (Option Entry) Refusal))
+    → held_by d.held ≡ [] → state_of d.feed ≡ unread → PushedAll d (trace_of ss) rs e → Decoded ss rs e
 
 -- a text is that of no two lists
 abbrev pub TextsTell : Type 0

@@ -1,7 +1,7 @@
 ghost use Rattle.std.specs.Prelude.{◌≡◌, Some};
 ghost use Rattle.stream.specs.declared.sample.Sample.{Sample};
 ghost use Rattle.rows.specs.Rows.{Sendable};
-ghost use Rattle.rows.specs.Traces.{sample_bytes, row_in, Returned, TracesComeBack, TextsTell};
+ghost use Rattle.rows.specs.Traces.{sample_bytes, row_in, Returned, TracesComeBack, DecodersAnswer, TextsTell};
 
 use crate::decoder::{Decoder, Entry};
 use crate::sending::encode_row;
@@ -10,11 +10,12 @@ use crate::writing::{RowText, write_row};
 use stream::{Refusal, Sample};
 
 /// Encodes a line, decodes its bytes, and writes the row of what came back: the same line.
-/// What holds of every list of samples, its bytes and its text, is promised with it.
-#[tactic(auto, using(crate::proofs::Feedings::traces_come_back, crate::proofs::Tellings::text_tells))]
+/// What holds of every list of samples, of its bytes, of what a decoder makes of them, and of its text, is promised with it.
+#[tactic(auto, using(crate::proofs::Feedings::traces_come_back, crate::proofs::Decodings::decoders_answer, crate::proofs::Tellings::text_tells))]
 pub fn there_and_back(line: &[u8]) -> Result<RowText, Slip>
     ensures row { Returned line.now result }
     ensures traces { TracesComeBack }
+    ensures decoders { DecodersAnswer }
     ensures texts { TextsTell }
 {
     let bytes = encode_row(line)?;

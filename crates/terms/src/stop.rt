@@ -8,7 +8,10 @@ use thiserror::Error;
 #[derive(Clone, Copy, Debug, Error)]
 pub enum Stop<'a> {
     #[error("{path}: refusal {number}: {refusal}", number = .refusal.number())]
-    Refused { path: &'a str, refusal: Refusal },
+    Refused {
+        path: &'a str,
+        refusal: Refusal,
+    },
     #[error("{path}, line {line}, column {column}: refusal {number}: {refusal}; {expected}", number = .refusal.number())]
     Faulty {
         path: &'a str,

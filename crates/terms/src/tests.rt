@@ -69,7 +69,11 @@ fn what_was_expected(rt: HostRuntime) {
         (b"7 keep a for 5 ?\n", 16, "expected since"),
         (b"7 keep a for 5 since ?\n", 22, signal),
         (b"7 never a or ?\n", 14, rule),
-        (b"7 never a allow ?\n", 17, "expected a number from 0 to 255"),
+        (
+            b"7 never a allow ?\n",
+            17,
+            "expected a number from 0 to 255",
+        ),
         (b"7 never a allow 5 ?\n", 19, "expected the end of the line"),
     ];
     for (text, column, expected) in cases {
@@ -83,8 +87,18 @@ fn what_was_expected_of_a_text(rt: HostRuntime) {
     let cases: [(&[u8], usize, usize, &str); 4] = [
         (b"", 1, 1, "expected at least one line"),
         (&[b'a'; 8193], 1, 1, "expected at most 8192 bytes in all"),
-        (b"7 never a\n8 never", 2, 8, "expected a line end after the last line"),
-        (b"7 never a\n7 never a\n", 2, 1, "expected a number above that of the line before"),
+        (
+            b"7 never a\n8 never",
+            2,
+            8,
+            "expected a line end after the last line",
+        ),
+        (
+            b"7 never a\n7 never a\n",
+            2,
+            1,
+            "expected a number above that of the line before",
+        ),
     ];
     for (text, line, column, expected) in cases {
         assert_eq!(rt; expected_in(text), Some((line, column, expected)));

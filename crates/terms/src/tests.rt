@@ -34,49 +34,57 @@ fn expected_in(text: &[u8]) -> Option<(usize, usize, &'static str)> {
     Some((fault.line(), column, expected))
 }
 
-/// A word that fits nowhere, behind each front that a line can have.
+const NUMBER: &str = "expected a clause number from 1 to 9999";
+
+const RULE: &str = "expected after, never, hold, repeat, answer or keep";
+
+const BODY: &str = "expected never, hold, repeat, answer or keep";
+
+const SIGNAL: &str = "expected a signal: a letter a to x or *, perhaps with ! before it";
+
+const LIMIT: &str = "expected a time limit from 0 to 999999999";
+
+const FROM: &str = "expected from, a further rule (or), allow, or the end of the line";
+
+const FURTHER: &str = "expected one further rule at most (or), allow, or the end of the line";
+
+/// A word that fits nowhere, behind each front that a line can have: its column, and what was expected there.
+const FRONTS: [(&[u8], usize, &str); 26] = [
+    (b"?\n", 1, NUMBER),
+    (b"7 ?\n", 3, RULE),
+    (b"7 after ?\n", 9, SIGNAL),
+    (b"7 after a ?\n", 11, BODY),
+    (b"7 never ?\n", 9, SIGNAL),
+    (b"7 never a ?\n", 11, FROM),
+    (b"7 never a from ?\n", 16, LIMIT),
+    (b"7 never a from 5 ?\n", 18, FURTHER),
+    (b"7 hold ?\n", 8, SIGNAL),
+    (b"7 hold a ?\n", 10, "expected least or under"),
+    (b"7 hold a least ?\n", 16, LIMIT),
+    (b"7 hold a under ?\n", 16, LIMIT),
+    (b"7 repeat ?\n", 10, SIGNAL),
+    (b"7 repeat a ?\n", 12, "expected within"),
+    (b"7 repeat a within ?\n", 19, LIMIT),
+    (b"7 answer ?\n", 10, SIGNAL),
+    (b"7 answer a ?\n", 12, "expected by"),
+    (b"7 answer a by ?\n", 15, SIGNAL),
+    (b"7 answer a by b ?\n", 17, "expected within"),
+    (b"7 keep a ?\n", 10, "expected for"),
+    (b"7 keep a for ?\n", 14, LIMIT),
+    (b"7 keep a for 5 ?\n", 16, "expected since"),
+    (b"7 keep a for 5 since ?\n", 22, SIGNAL),
+    (b"7 never a or ?\n", 14, RULE),
+    (
+        b"7 never a allow ?\n",
+        17,
+        "expected a number from 0 to 255",
+    ),
+    (b"7 never a allow 5 ?\n", 19, "expected the end of the line"),
+];
+
 #[test]
 fn what_was_expected(rt: HostRuntime) {
-    let number = "expected a clause number from 1 to 9999";
-    let rule = "expected after, never, hold, repeat, answer or keep";
-    let body = "expected never, hold, repeat, answer or keep";
-    let signal = "expected a signal: a letter a to x or *, perhaps with ! before it";
-    let limit = "expected a time limit from 0 to 999999999";
-    let from = "expected from, a further rule (or), allow, or the end of the line";
-    let further = "expected one further rule at most (or), allow, or the end of the line";
-    let cases: [(&[u8], usize, &str); 26] = [
-        (b"?\n", 1, number),
-        (b"7 ?\n", 3, rule),
-        (b"7 after ?\n", 9, signal),
-        (b"7 after a ?\n", 11, body),
-        (b"7 never ?\n", 9, signal),
-        (b"7 never a ?\n", 11, from),
-        (b"7 never a from ?\n", 16, limit),
-        (b"7 never a from 5 ?\n", 18, further),
-        (b"7 hold ?\n", 8, signal),
-        (b"7 hold a ?\n", 10, "expected least or under"),
-        (b"7 hold a least ?\n", 16, limit),
-        (b"7 hold a under ?\n", 16, limit),
-        (b"7 repeat ?\n", 10, signal),
-        (b"7 repeat a ?\n", 12, "expected within"),
-        (b"7 repeat a within ?\n", 19, limit),
-        (b"7 answer ?\n", 10, signal),
-        (b"7 answer a ?\n", 12, "expected by"),
-        (b"7 answer a by ?\n", 15, signal),
-        (b"7 answer a by b ?\n", 17, "expected within"),
-        (b"7 keep a ?\n", 10, "expected for"),
-        (b"7 keep a for ?\n", 14, limit),
-        (b"7 keep a for 5 ?\n", 16, "expected since"),
-        (b"7 keep a for 5 since ?\n", 22, signal),
-        (b"7 never a or ?\n", 14, rule),
-        (
-            b"7 never a allow ?\n",
-            17,
-            "expected a number from 0 to 255",
-        ),
-        (b"7 never a allow 5 ?\n", 19, "expected the end of the line"),
-    ];
-    for (text, column, expected) in cases {
+    for (text, column, expected) in FRONTS {
         assert_eq!(rt; expected_in(text), Some((1, column, expected)));
     }
 }

@@ -20,15 +20,16 @@ fn expected_behind(front: &[u8]) -> &'static str {
         b"allow" => "expected a number from 0 to 255",
         _ => match words.next() {
             None => RULE,
-            Some(keyword) => expected_past(keyword),
+            Some(keyword) => expected_past(keyword, words.any(|word| word == b"or".as_slice())),
         },
     }
 }
 
-/// What can come behind the signal or the number that a keyword asked for.
-fn expected_past(keyword: &[u8]) -> &'static str {
+/// What can come behind the signal or the number that a keyword asked for, in the first rule of a line or its second.
+fn expected_past(keyword: &[u8], second: bool) -> &'static str {
     match keyword {
         b"after" => "expected never, hold, repeat, answer or keep",
+        b"never" if second => "expected from, allow, or the end of the line",
         b"never" => "expected from, a further rule (or), allow, or the end of the line",
         b"hold" => "expected least or under",
         b"repeat" | b"by" => "expected within",
@@ -36,7 +37,8 @@ fn expected_past(keyword: &[u8]) -> &'static str {
         b"keep" => "expected for",
         b"for" => "expected since",
         b"allow" => "expected the end of the line",
-        _ => "expected one further rule at most (or), allow, or the end of the line",
+        _ if second => "expected allow or the end of the line",
+        _ => "expected a further rule (or), allow, or the end of the line",
     }
 }
 

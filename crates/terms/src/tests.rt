@@ -46,10 +46,10 @@ const LIMIT: &str = "expected a time limit from 0 to 999999999";
 
 const FROM: &str = "expected from, a further rule (or), allow, or the end of the line";
 
-const FURTHER: &str = "expected one further rule at most (or), allow, or the end of the line";
+const FURTHER: &str = "expected a further rule (or), allow, or the end of the line";
 
 /// A word that fits nowhere, behind each front that a line can have: its column, and what was expected there.
-const FRONTS: [(&[u8], usize, &str); 26] = [
+const FRONTS: [(&[u8], usize, &str); 30] = [
     (b"?\n", 1, NUMBER),
     (b"7 ?\n", 3, RULE),
     (b"7 after ?\n", 9, SIGNAL),
@@ -73,7 +73,19 @@ const FRONTS: [(&[u8], usize, &str); 26] = [
     (b"7 keep a for ?\n", 14, LIMIT),
     (b"7 keep a for 5 ?\n", 16, "expected since"),
     (b"7 keep a for 5 since ?\n", 22, SIGNAL),
+    (b"7 keep a for 5 since b ?\n", 24, FURTHER),
     (b"7 never a or ?\n", 14, RULE),
+    (b"7 never a or after b ?\n", 22, BODY),
+    (
+        b"7 never a or never b ?\n",
+        22,
+        "expected from, allow, or the end of the line",
+    ),
+    (
+        b"7 never a or hold b under 5 or\n",
+        29,
+        "expected allow or the end of the line",
+    ),
     (
         b"7 never a allow ?\n",
         17,

@@ -1,4 +1,6 @@
-//! Words in, samples out.
+//! Samples and signals, and their words: a feed takes words and makes samples of them, a sender writes a sample as words, an assembler makes words of bytes.
+//! Of every word in every state it is promised which refusal comes first, or which sample and state follow; that what is sent is read as just that; and
+//! that no byte is lost, repeated or moved.
 
 #![tactic(auto)]
 

@@ -12,11 +12,11 @@ abbrev pub SeatFails : List Line → ℕ → List Sample → Type 0
 SeatFails ls k l = IsSomeAnd (at_seat ls k) (λ line. ClauseFails line l)
 
 -- the clause number of line k
-abbrev pub line_number : List Line → ℕ → Option ℕ
-line_number ls k = option_map (λ line. line.number.value) (at_seat ls k)
+abbrev pub said_number : List Line → ℕ → Option ℕ
+said_number ls k = option_map (λ line. line.number.value) (at_seat ls k)
 
 -- the book of these lines, before any sample: a seat for each, lost where its line says so, with its line's number
 pub record Holds (b : Book) (ls : List Line) : Type 0 where
   pub seats : seats_of b ≡ length ls
   pub meaning : (l : List Sample) (k : ℕ) → Decides (book_fails b l k) (SeatFails ls k l)
-  pub numbers : (k : ℕ) → number_at b k ≡ line_number ls k
+  pub numbers : (k : ℕ) → number_at b k ≡ said_number ls k

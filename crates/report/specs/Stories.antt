@@ -4,7 +4,7 @@ use Rattle.std.specs.Option.{unwrap_or}
 use Rattle.grammar.specs.declared.tree.Line.{Line}
 use Rattle.grammar.specs.Books.{IsBook}
 use Rattle.book.specs.declared.book.Book.{Book}
-use Rattle.book.specs.Books.{SeatFails, line_number, Holds}
+use Rattle.book.specs.Books.{SeatFails, said_number, Holds}
 use Rattle.book.specs.Seating.{seats_of, book_fails}
 use Rattle.watch.specs.declared.notice.Notice.{Notice}
 use Rattle.watch.specs.declared.story.Call.{Call}
@@ -32,7 +32,7 @@ pub record BookStory (ls : List Line) (cs : List Call) (given : List Answer) (b 
 
 -- the clause number of seat k, or 0 where there is no such seat: by the lines, and by a table of the numbers
 abbrev pub term_of : List Line → ℕ → ℕ
-term_of ls k = unwrap_or (line_number ls k) 0
+term_of ls k = unwrap_or (said_number ls k) 0
 
 abbrev pub term_at : ClauseNumbers → ℕ → ℕ
 term_at t k = slice_index t.numbers k

@@ -1,6 +1,6 @@
-//! Samples and signals, and their words: a feed takes words and makes samples of them, a sender writes a sample as words, an assembler makes words of bytes.
-//! Of every word in every state it is promised which refusal comes first, or which sample and state follow; that what is sent is read as just that; and
-//! that no byte is lost, repeated or moved.
+//! Words in, samples out: a feed that takes words, a sender that writes them, signals that hold at samples or not, and bytes put together into words.
+//! Each word is taken, or refused by the first check that fails it, and a refused word alters nothing. What is sent of a sample is read as
+//! that sample, a signal holds exactly where its letter, `*` and `!` say, and no byte is lost, repeated or moved.
 
 #![tactic(auto)]
 

@@ -7,7 +7,7 @@ use Rattle.stream.specs.Signals.{holds_at}
 use Rattle.monitor.specs.declared.pattern.Pattern.{Pattern}
 use Rattle.monitor.specs.declared.pattern.Pattern.TheVariants.{Never, NeverFrom, HoldLeast, HoldUnder, Repeat, Answer, Keep}
 
--- what stands where there is no sample; no sentence below looks there
+-- what stands where there is no sample; whether a sentence below holds never hangs on it
 abbrev pub blank : Sample
 blank = record { gap = 0; letters = 0; low = lit< tt }
 

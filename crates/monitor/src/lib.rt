@@ -42,53 +42,29 @@ mod tests {
         let p = Signal::letter(0)?;
         let s = Signal::letter(1)?;
         let t = Ticks::new(5)?;
-        assert_eq!(rt; lost_at(Pattern::Never { p }, &[])?, None);
-        assert_eq!(rt; lost_at(Pattern::Never { p }, &[(9, A)])?, Some(1));
-        assert_eq!(rt;
-            lost_at(Pattern::NeverFrom { p, t }, &[(0, A), (4, A)])?,
-            None
-        );
-        assert_eq!(rt;
-            lost_at(Pattern::NeverFrom { p, t }, &[(0, A), (4, A), (1, A)])?,
-            Some(3)
-        );
-        assert_eq!(rt;
-            lost_at(Pattern::HoldLeast { p, t }, &[(0, A), (5, 0)])?,
-            None
-        );
-        assert_eq!(rt;
-            lost_at(Pattern::HoldLeast { p, t }, &[(0, A), (4, 0)])?,
-            Some(2)
-        );
-        assert_eq!(rt;
-            lost_at(Pattern::HoldUnder { p, t }, &[(0, A), (2, 0), (3, A)])?,
-            None
-        );
-        assert_eq!(rt;
-            lost_at(Pattern::HoldUnder { p, t }, &[(0, A), (5, A)])?,
-            Some(2)
-        );
-        assert_eq!(rt; lost_at(Pattern::Repeat { p, t }, &[(0, 0), (5, A)])?, None);
-        assert_eq!(rt;
-            lost_at(Pattern::Repeat { p, t }, &[(0, 0), (6, A)])?,
-            Some(2)
-        );
-        assert_eq!(rt;
-            lost_at(Pattern::Answer { p, s, t }, &[(0, A), (5, B)])?,
-            None
-        );
-        assert_eq!(rt;
-            lost_at(Pattern::Answer { p, s, t }, &[(0, A), (6, B)])?,
-            Some(2)
-        );
-        assert_eq!(rt;
-            lost_at(Pattern::Keep { s, t, p }, &[(0, A + B), (5, 0)])?,
-            None
-        );
-        assert_eq!(rt;
-            lost_at(Pattern::Keep { s, t, p }, &[(0, A + B), (4, 0)])?,
-            Some(2)
-        );
+        let cases: [(Pattern, &[(u32, u32)], Option<usize>); 14] = [
+            (Pattern::Never { p }, &[], None),
+            (Pattern::Never { p }, &[(9, A)], Some(1)),
+            (Pattern::NeverFrom { p, t }, &[(0, A), (4, A)], None),
+            (
+                Pattern::NeverFrom { p, t },
+                &[(0, A), (4, A), (1, A)],
+                Some(3),
+            ),
+            (Pattern::HoldLeast { p, t }, &[(0, A), (5, 0)], None),
+            (Pattern::HoldLeast { p, t }, &[(0, A), (4, 0)], Some(2)),
+            (Pattern::HoldUnder { p, t }, &[(0, A), (2, 0), (3, A)], None),
+            (Pattern::HoldUnder { p, t }, &[(0, A), (5, A)], Some(2)),
+            (Pattern::Repeat { p, t }, &[(0, 0), (5, A)], None),
+            (Pattern::Repeat { p, t }, &[(0, 0), (6, A)], Some(2)),
+            (Pattern::Answer { p, s, t }, &[(0, A), (5, B)], None),
+            (Pattern::Answer { p, s, t }, &[(0, A), (6, B)], Some(2)),
+            (Pattern::Keep { s, t, p }, &[(0, A + B), (5, 0)], None),
+            (Pattern::Keep { s, t, p }, &[(0, A + B), (4, 0)], Some(2)),
+        ];
+        for (pattern, trace, lost) in cases {
+            assert_eq!(rt; lost_at(pattern, trace)?, lost);
+        }
         Ok(())
     }
 

@@ -3,7 +3,7 @@ use Rattle.std.proofs.Common.{◌≡◌, ℕ, min, Bool, ◌||◌, eqb, List, []
 use Rattle.stream.specs.declared.refusal.Refusal.{Refusal}
 use Rattle.watch.specs.declared.notice.Notice.{Notice}
 use Rattle.watch.specs.Order.{Waits}
-use Rattle.watch.specs.Account.{Account, Took, Collected, Listed, Alike, AlikeOn}
+use Rattle.watch.specs.Account.{Account, TookFirst, Collected, Listed, Alike, AlikeOn}
 use Rattle.watch.proofs.Only.{one_waiting}
 
 module _ (a b : Account) (h : Alike a b) where
@@ -25,7 +25,7 @@ module _ (a b : Account) (h : Alike a b) where
       (written, waiting, l.list ∙ ap₂ (λ (z : ℕ) (y : List Notice). take z y ++ drop z before) written ns ∙ sym k.list)
 
   -- what the two took away
-  same_took : (c d : Account) (r s : Result Notice Refusal) → Took a c r → Took b d s → (r ≡ s) × ((k : ℕ) → c.collected k ≡ d.collected k)
+  same_took : (c d : Account) (r s : Result Notice Refusal) → TookFirst a c r → TookFirst b d s → (r ≡ s) × ((k : ℕ) → c.collected k ≡ d.collected k)
   same_took c d (Ok n) (Ok m) (x, w, f) (y, v, g) =
       let both = same_waiting (n ∷ x) (m ∷ y) w v in
       let same : n ≡ m = cc in

@@ -6,7 +6,7 @@ use Rattle.stream.specs.declared.refusal.Refusal.{Refusal}
 use Rattle.stream.specs.declared.sample.Sample.{Sample}
 use Rattle.stream.specs.declared.numbered.Numbered.{Numbered}
 use Rattle.stream.specs.Words.{State, Fed, feeding, Took}
-use Rattle.watch.specs.Losses.{bare, first_of, number_by}
+use Rattle.watch.specs.Losses.{bare, kept_or, number_by}
 use Rattle.watch.specs.Account.{Account, Undisturbed, Delivered, Alike}
 use Rattle.watch.specs.Pieces.{words}
 use Rattle.watch.proofs.Feeding.{both, feeding_on, feeding_stop, feeding_word, bare-++, number_by-++}
@@ -44,7 +44,7 @@ word_plain a b w t u =
 
 pub word_sample : (a b : Account) (w : ℕ) (x : Numbered) → Took a.feed w (Ok (Some x)) b.feed → b.count ≡ a.count
     → ((l : List Sample) (k : ℕ) → b.meaning l k ≡ a.meaning (x.sample ∷ l) k)
-    → ((k : ℕ) → b.number k ≡ first_of (a.number k) (cond (a.meaning (x.sample ∷ []) k) (Some x.number) None))
+    → ((k : ℕ) → b.number k ≡ kept_or (a.number k) (cond (a.meaning (x.sample ∷ []) k) (Some x.number) None))
     → ((k : ℕ) → b.collected k ≡ a.collected k) → Delivered a (w ∷ []) b 1 None
 unfolding number_by
 word_sample a b w x t seats meaning number collected =

@@ -6,7 +6,7 @@ use Rattle.panel.specs.declared.seats.Seats.{Seats}
 use Rattle.panel.specs.Seating.{is_seat, has_seat}
 use Rattle.watch.specs.declared.ledger.Ledger.{Ledger}
 use Rattle.watch.specs.Ledgers.{number_of}
-use Rattle.watch.specs.Losses.{first_of}
+use Rattle.watch.specs.Losses.{kept_or}
 
 -- a seat of a set is one of 1 to 64
 pub seat_bounds : (s : Seats) (k : ℕ) → has_seat s k ≡ true → (1 ≤ k) × (k ≤ 64)
@@ -41,11 +41,11 @@ pub entered : (g : Ledger) (lost newly all : Seats) (number : ℕ) (numbers : Li
     → ((k : ℕ) → has_seat newly k ≡ (has_seat lost k && not (has_seat g.lost k)))
     → ((k : ℕ) → has_seat all k ≡ (has_seat g.lost k || has_seat newly k))
     → ((k : ℕ) → 1 ≤ k → get_or numbers (k - 1) 0 ≡ cond (has_seat newly k) number (get_or g.numbers (k - 1) 0))
-    → (k : ℕ) → cond (has_seat all k) (Some (get_or numbers (k - 1) 0)) None ≡ first_of (number_of g k) (cond (has_seat lost k) (Some number) None)
+    → (k : ℕ) → cond (has_seat all k) (Some (get_or numbers (k - 1) 0)) None ≡ kept_or (number_of g k) (cond (has_seat lost k) (Some number) None)
 entered g lost newly all number numbers n a f k = go (has_seat g.lost k) (has_seat lost k) refl refl
   where
     go : (b c : Bool) → has_seat g.lost k ≡ b → has_seat lost k ≡ c
-        → cond (has_seat all k) (Some (get_or numbers (k - 1) 0)) None ≡ first_of (cond b (Some (get_or g.numbers (k - 1) 0)) None) (cond c (Some number) None)
+        → cond (has_seat all k) (Some (get_or numbers (k - 1) 0)) None ≡ kept_or (cond b (Some (get_or g.numbers (k - 1) 0)) None) (cond c (Some number) None)
     go true c p q =
         let old : has_seat newly k ≡ false = n k ∙ rw p (and-false (has_seat lost k)) in
         rw (a k, p, f k (seat_bounds g.lost k p).0, old)

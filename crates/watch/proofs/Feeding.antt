@@ -6,7 +6,7 @@ use Rattle.stream.specs.declared.refusal.Refusal.{Refusal}
 use Rattle.stream.specs.declared.sample.Sample.{Sample}
 use Rattle.stream.specs.declared.numbered.Numbered.{Numbered}
 use Rattle.stream.specs.Words.{State, Fed, refusal, after, made, onward, feeding, answer_by, state_by, Took}
-use Rattle.watch.specs.Losses.{bare, first_of, number_by}
+use Rattle.watch.specs.Losses.{bare, kept_or, number_by}
 
 -- what two lists come to, where no word of the first was refused
 abbrev pub both : Fed → Fed → Fed
@@ -63,4 +63,4 @@ pub number_by-++ : (F : List Sample → ℕ → Bool) (k : ℕ) (old : Option �
 unfolding number_by
 number_by-++ F k old [] ys = refl
 number_by-++ F k old (x ∷ xs) ys =
-    number_by-++ (λ l. F (x.sample ∷ l)) k (first_of old (cond (F (x.sample ∷ []) k) (Some x.number) None)) xs ys
+    number_by-++ (λ l. F (x.sample ∷ l)) k (kept_or old (cond (F (x.sample ∷ []) k) (Some x.number) None)) xs ys

@@ -58,14 +58,14 @@ abbrev pub Listed : Account → List Notice → List Notice → ℕ → ℕ → 
 Listed a before after written waiting = Listing a.number a.collected before after written waiting
 
 -- the first notice that waits was taken away, or none waited
-abbrev pub Took : Account → Account → Result Notice Refusal → Type 0
-Took a b (Ok n) =
+abbrev pub TookFirst : Account → Account → Result Notice Refusal → Type 0
+TookFirst a b (Ok n) =
     (rest : List Notice) × Waits a.number a.collected (n ∷ rest) × ((k : ℕ) → b.collected k ≡ (a.collected k || n.seat == k))
-Took a b (Err e) = (e ≡ NothingWaits) × Waits a.number a.collected [] × ((k : ℕ) → b.collected k ≡ a.collected k)
+TookFirst a b (Err e) = (e ≡ NothingWaits) × Waits a.number a.collected [] × ((k : ℕ) → b.collected k ≡ a.collected k)
 
 -- collect was called
 pub record Collected (a b : Account) (r : Result Notice Refusal) : Type 0 where
-  pub took : Took a b r
+  pub took : TookFirst a b r
   pub feed : b.feed ≡ a.feed
   pub seats : b.count ≡ a.count
   pub meaning : (l : List Sample) (k : ℕ) → b.meaning l k ≡ a.meaning l k

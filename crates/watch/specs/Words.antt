@@ -3,9 +3,9 @@ use Rattle.std.specs.Prelude.{ℕ, Some, None, Ok, Err, Option, Result}
 use Rattle.stream.specs.declared.refusal.Refusal.{Refusal}
 
 -- how many words were taken, of one
-abbrev pub taken_by : Result (Unit {0}) Refusal → ℕ
-taken_by (Ok done) = 1
-taken_by (Err r) = 0
+abbrev pub count_in : Result (Unit {0}) Refusal → ℕ
+count_in (Ok done) = 1
+count_in (Err r) = 0
 
 -- the refusal, if there is one
 abbrev pub refusal_in : Result (Unit {0}) Refusal → Option Refusal

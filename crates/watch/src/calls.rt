@@ -3,11 +3,11 @@ ghost use Rattle.std.specs.Ordering.{MatchOrdering};
 ghost use Rattle.stream.specs.declared.sample.Sample.{Sample};
 ghost use Rattle.watch.specs.Falls.{NumbersRight};
 ghost use Rattle.watch.specs.Ledgers.{number_of, collected_of};
-ghost use Rattle.watch.specs.Losses.{first_of};
+ghost use Rattle.watch.specs.Losses.{kept_or};
 ghost use Rattle.watch.specs.declared.notice.Notice.{Notice};
 ghost use Rattle.watch.specs.Order.{Before, OneWaiting};
 ghost use Rattle.watch.specs.Account.{account, Made, Opened, Delivered, Collected, Listed};
-ghost use Rattle.watch.specs.Words.{taken_by, refusal_in};
+ghost use Rattle.watch.specs.Words.{count_in, refusal_in};
 
 use crate::ledger::Ledger;
 use crate::notice::Notice;
@@ -50,7 +50,7 @@ impl<P: Panel> Watch<P> {
     }
 
     fn take(&mut self, word: u32) -> Result<(), Refusal>
-        ensures { Delivered (account P.count P.fails self.old) (word ∷ []) (account P.count P.fails self.new) (taken_by result) (refusal_in result) }
+        ensures { Delivered (account P.count P.fails self.old) (word ∷ []) (account P.count P.fails self.new) (count_in result) (refusal_in result) }
     {
         if let Some(numbered) = self.feed.take(word)? {
             self.judge(numbered);
@@ -63,7 +63,7 @@ impl<P: Panel> Watch<P> {
         ensures feed { self.new.feed ≡ self.old.feed }
         ensures seats { P.count self.new.panel ≡ P.count self.old.panel }
         ensures meaning { (l : List Sample) (k : ℕ) → P.fails self.new.panel l k ≡ P.fails self.old.panel (numbered.sample ∷ l) k }
-        ensures number { (k : ℕ) → number_of self.new.ledger k ≡ first_of (number_of self.old.ledger k) (if P.fails self.old.panel (numbered.sample ∷ []) k then Some numbered.number else None) }
+        ensures number { (k : ℕ) → number_of self.new.ledger k ≡ kept_or (number_of self.old.ledger k) (if P.fails self.old.panel (numbered.sample ∷ []) k then Some numbered.number else None) }
         ensures collected { (k : ℕ) → collected_of self.new.ledger k ≡ collected_of self.old.ledger k }
     {
         let lost = self.panel.judge(numbered.sample);

@@ -1,9 +1,10 @@
 -- The letters of a row, letter by letter.
-use Rattle.std.proofs.Common.{◌≡◌, ℕ, zero, suc, ◌+◌, ◌-◌, ◌*◌, ◌/◌, ◌%◌, ◌^◌, ◌<◌, ◌≤◌, ◌⊎◌, List, [], ◌∷◌, length, get_or, drop, sym, refl, ap, ◌∙◌, subst, inl, inr, ⊎_elim, mul_assoc, add-mul, pow-suc, mul-add, arith}
-use Rattle.std.proofs.lemmas.List.{drop_more, drop_all}
+use Rattle.std.proofs.Common.{◌≡◌, ℕ, zero, suc, ◌+◌, ◌-◌, ◌*◌, ◌/◌, ◌%◌, ◌^◌, ◌<◌, ◌≤◌, ◌⊎◌, List, [], ◌∷◌, ◌++◌, length, get_or, take, sym, refl, ap, ◌∙◌, subst, inl, inr, ⊎_elim, mul_assoc, add-mul, pow-suc, mul-add, pow_mono, append_assoc, append-nil, length-append, arith}
+use Rattle.std.proofs.lemmas.List.{take_more, take_all}
 use Rattle.std.proofs.lemmas.Bool.{eq-eqb, ne_eqb, cases_eq}
 use Rattle.std.proofs.Math.Nat.{div-div-eq-div-mul}
-use Rattle.rows.specs.Rows.{letters_in}
+use Rattle.rows.specs.Rows.{letters_in, Begins, NoneReads}
+use Rattle.rows.proofs.Slips.{stopped, next_byte}
 
 pub odd_or_even : (n : ℕ) → (n % 2 ≡ 1) ⊎ (n % 2 ≡ 0)
 odd_or_even n = ⊎_elim (λ e. inl e) (λ ne. inr (omega arith)) (cases_eq (n % 2) 1)
@@ -102,96 +103,107 @@ weigh_set m q p w e = omega (arith, add-mul (2 * q) 1 p, mul_assoc 2 q p, mul-ad
 weigh_clear : (m q p w : ℕ) → w ≡ p * 2 → m + (2 * q) * p ≡ m + q * w
 weigh_clear m q p w e = omega (arith, mul_assoc 2 q p, mul-add q p p, ap (λ (k : ℕ). q * k) e)
 
--- letters of which those before `letter` are `bits`, and those from it on are `more`
-pub record Split (text : List ℕ) (at letter bits ls : ℕ) : Type 0 where
-  pub more : ℕ
-  pub sum : ls ≡ bits + more * weight letter
-  pub rest : drop at text ≡ letters_from letter more
-
--- the first `at` bytes are letters before `letter`, in order
-pub record Reads (text : List ℕ) (bits at letter : ℕ) : Type 0 where
+-- bytes that are letters before `letter`, in order, by their bits
+pub record Reads (front : List ℕ) (bits letter : ℕ) : Type 0 where
   pub low : bits < weight letter
-  pub to : (ls : ℕ) → text ≡ letters_in 24 97 ls → Split text at letter bits ls
-  pub back : (more : ℕ) → drop at text ≡ letters_from letter more → text ≡ letters_in 24 97 (bits + more * weight letter)
+  pub on : (more : ℕ) → letters_in 24 97 (bits + more * weight letter) ≡ front ++ letters_from letter more
 
-module _ (text : List ℕ) (bits at letter : ℕ) (l : 97 ≤ letter) (h : letter < 121) (r : Reads text bits at letter) where
+pub reads_none : Reads [] 0 97
+reads_none = record { low = omega arith; on = λ more. ap (letters_in 24 97) (omega arith) }
+
+module _ (front : List ℕ) (bits letter : ℕ) (l : 97 ≤ letter) (h : letter < 121) (r : Reads front bits letter) where
   next : weight (letter + 1) ≡ weight letter * 2
   next = next_weight letter l
 
-  -- the letter stands at the column
-  module _ (here : drop at text ≡ letter ∷ drop (at + 1) text) where
-    split_set : (ls : ℕ) → Split text at letter bits ls → Split text (at + 1) (letter + 1) (bits + weight letter) ls
-    split_set ls s =
-        let q = s.more in
-        ⊎_elim
-        (λ odd.
-        let half : q ≡ 2 * (q / 2) + 1 = omega arith in
-        record {
-          more = q / 2;
-          sum = s.sum ∙ ap (λ (k : ℕ). bits + k * weight letter) half ∙ weigh_set bits (q / 2) (weight letter) _ next;
-          rest = cc (here, s.rest, from_set letter q h odd);
-        })
-        (λ even. let late = first_letter (121 - (letter + 1)) (letter + 1) (q / 2) letter (drop (at + 1) text) (sym (from_clear letter q h even) ∙ sym s.rest ∙ here) in absurd (omega (arith, late.0)))
-        (odd_or_even q)
+  takes_letter : Reads (front ++ (letter ∷ [])) (bits + weight letter) (letter + 1)
+  takes_letter = record {
+    low = omega (arith, next, r.low);
+    on = λ more.
+        let odd : (2 * more + 1) % 2 ≡ 1 = omega arith in
+        let half : (2 * more + 1) / 2 ≡ more = omega arith in
+        ap (letters_in 24 97) (sym (weigh_set bits more (weight letter) _ next))
+        ∙ r.on (2 * more + 1)
+        ∙ ap (λ (t : List ℕ). front ++ t) (from_set letter (2 * more + 1) h odd ∙ ap (λ (q : ℕ). letter ∷ letters_from (letter + 1) q) half)
+        ∙ sym (append_assoc front (letter ∷ []) (letters_from (letter + 1) more));
+  }
 
-    takes_letter : Reads text (bits + weight letter) (at + 1) (letter + 1)
-    takes_letter = record {
-      low = omega (arith, next, r.low);
-      to = λ ls e. split_set ls (r.to ls e);
-      back = λ more e.
-          let odd : (2 * more + 1) % 2 ≡ 1 = omega arith in
-          let half : (2 * more + 1) / 2 ≡ more = omega arith in
-          r.back (2 * more + 1) (here ∙ ap (λ (t : List ℕ). letter ∷ t) (e ∙ ap (letters_from (letter + 1)) (sym half)) ∙ sym (from_set letter (2 * more + 1) h odd))
-          ∙ ap (letters_in 24 97) (weigh_set bits more (weight letter) _ next);
-    }
+  passes_letter : Reads front bits (letter + 1)
+  passes_letter = record {
+    low = omega (arith, next, r.low);
+    on = λ more.
+        let even : (2 * more) % 2 ≡ 0 = omega arith in
+        let half : (2 * more) / 2 ≡ more = omega arith in
+        ap (letters_in 24 97) (sym (weigh_clear bits more (weight letter) _ next))
+        ∙ r.on (2 * more)
+        ∙ ap (λ (t : List ℕ). front ++ t) (from_clear letter (2 * more) h even ∙ ap (letters_from (letter + 1)) half);
+  }
 
-  -- a later one does
-  module _ (c : ℕ) (here : drop at text ≡ c ∷ drop (at + 1) text) (late : letter < c) where
-    split_clear : (ls : ℕ) → Split text at letter bits ls → Split text at (letter + 1) bits ls
-    split_clear ls s =
-        let q = s.more in
-        ⊎_elim
-        (λ odd. let same : c ≡ letter = cc (here, s.rest, from_set letter q h odd) in absurd (omega arith))
-        (λ even.
-        let half : q ≡ 2 * (q / 2) = omega arith in
-        record {
-          more = q / 2;
-          sum = s.sum ∙ ap (λ (k : ℕ). bits + k * weight letter) half ∙ weigh_clear bits (q / 2) (weight letter) _ next;
-          rest = s.rest ∙ from_clear letter q h even;
-        })
-        (odd_or_even q)
+-- the letters before the next one are passed, and it is taken
+passes_to : (n : ℕ) (front : List ℕ) (bits letter c : ℕ) → letter + n ≡ c → 97 ≤ letter → c < 121 → Reads front bits letter → Reads front bits c
+passes_to zero front bits letter c is l h r = subst (Reads front bits) (omega arith) r
+passes_to (suc n) front bits letter c is l h r = passes_to n front bits (letter + 1) c (omega arith) (omega arith) h (passes_letter front bits letter l (omega arith) r)
 
-    passes_letter : Reads text bits at (letter + 1)
-    passes_letter = record {
-      low = omega (arith, next, r.low);
-      to = λ ls e. split_clear ls (r.to ls e);
-      back = λ more e.
-          let even : (2 * more) % 2 ≡ 0 = omega arith in
-          let half : (2 * more) / 2 ≡ more = omega arith in
-          r.back (2 * more) (e ∙ ap (letters_from (letter + 1)) (sym half) ∙ sym (from_clear letter (2 * more) h even))
-          ∙ ap (letters_in 24 97) (weigh_clear bits more (weight letter) _ next);
-    }
-
--- the letters before the one that stands at the column are passed, and it is taken
-passes_to : (n : ℕ) (text : List ℕ) (bits at letter c : ℕ) → letter + n ≡ c → 97 ≤ letter → c < 121 → drop at text ≡ c ∷ drop (at + 1) text → Reads text bits at letter → Reads text bits at c
-passes_to zero text bits at letter c is l h here r = subst (Reads text bits at) (omega arith) r
-passes_to (suc n) text bits at letter c is l h here r =
-    passes_to n text bits at (letter + 1) c (omega arith) (omega arith) h here (passes_letter text bits at letter l (omega arith) r c here (omega arith))
-
-pub reads_letter : (text : List ℕ) (bits at first : ℕ) → at < length text → 97 ≤ first → first ≤ get_or text at 0 → get_or text at 0 ≤ 120 → Reads text bits at first
-    → Reads text (bits + weight (get_or text at 0)) (at + 1) (get_or text at 0 + 1)
+pub reads_letter : (text : List ℕ) (bits at first : ℕ) → at < length text → 97 ≤ first → first ≤ get_or text at 0 → get_or text at 0 ≤ 120 → Reads (take at text) bits first
+    → Reads (take (at + 1) text) (bits + weight (get_or text at 0)) (get_or text at 0 + 1)
 reads_letter text bits at first h from order low r =
     let c = get_or text at 0 in
-    let here = drop_more text at 0 h in
-    takes_letter text bits at c (omega arith) (omega arith) (passes_to (c - first) text bits at first c (omega arith) from (omega arith) here r) here
+    subst (λ (front : List ℕ). Reads front (bits + weight c) (c + 1)) (sym (take_more text at 0 h))
+    (takes_letter (take at text) bits c (omega arith) (omega arith) (passes_to (c - first) (take at text) bits first c (omega arith) from (omega arith) r))
+
+-- they are the whole text, and letters begin so
+pub reads_front : (front : List ℕ) (bits first : ℕ) → Reads front bits first → letters_in 24 97 bits ≡ front ++ []
+reads_front front bits first r = ap (letters_in 24 97) (omega arith) ∙ r.on 0 ∙ ap (λ (t : List ℕ). front ++ t) (no_bits (121 - first) first)
+
+pub reads_all : (text : List ℕ) (bits at first : ℕ) → length text ≤ at → Reads (take at text) bits first → text ≡ letters_in 24 97 bits
+reads_all text bits at first end r = sym (reads_front (take at text) bits first r ∙ append-nil (take at text) ∙ take_all at text end)
+
+-- behind a letter comes a later one
+later : (n letter bits : ℕ) (front : List ℕ) (c b : ℕ) (rest : List ℕ) → letters_in n letter bits ≡ front ++ (c ∷ (b ∷ rest)) → (c < b) × (b < letter + n)
+later zero letter bits front c b rest e = absurd (omega (arith, ap length (sym (no_letters letter bits) ∙ e), length-append front (c ∷ (b ∷ rest))))
+later (suc n) letter bits [] c b rest e =
+    ⊎_elim
+    (λ odd.
+    let same : letter ≡ c = cc (letter_set n letter bits odd) in
+    let tail : letters_in n (letter + 1) (bits / 2) ≡ b ∷ rest = cc (letter_set n letter bits odd) in
+    let is = first_letter n (letter + 1) (bits / 2) b rest tail in
+    (omega (arith, is.0), omega (arith, is.1)))
+    (λ even. let is = later n (letter + 1) (bits / 2) [] c b rest (sym (letter_clear n letter bits even) ∙ e) in (is.0, omega (arith, is.1)))
+    (odd_or_even bits)
+later (suc n) letter bits (x ∷ front) c b rest e =
+    ⊎_elim
+    (λ odd.
+    let tail : letters_in n (letter + 1) (bits / 2) ≡ front ++ (c ∷ (b ∷ rest)) = cc (letter_set n letter bits odd) in
+    let is = later n (letter + 1) (bits / 2) front c b rest tail in
+    (is.0, omega (arith, is.1)))
+    (λ even. let is = later n (letter + 1) (bits / 2) (x ∷ front) c b rest (sym (letter_clear n letter bits even) ∙ e) in (is.0, omega (arith, is.1)))
+    (odd_or_even bits)
+
+-- of what can come behind these bytes, `letter` is the first
+abbrev pub GoesFrom : List ℕ → ℕ → Type 0
+GoesFrom front letter = (ls b : ℕ) (rest : List ℕ) → letters_in 24 97 ls ≡ front ++ (b ∷ rest) → (letter ≤ b) × (b < 121)
+
+pub goes_first : GoesFrom [] 97
+goes_first ls b rest e = first_letter 24 97 ls b rest e
+
+pub goes_on : (text : List ℕ) (at : ℕ) → at < length text → GoesFrom (take (at + 1) text) (get_or text at 0 + 1)
+goes_on text at h ls b rest e =
+    let c = get_or text at 0 in
+    let is = later 24 97 ls (take at text) c b rest (e ∙ ap (λ (l : List ℕ). l ++ (b ∷ rest)) (take_more text at 0 h) ∙ append_assoc (take at text) (c ∷ []) (b ∷ rest)) in
+    (omega (arith, is.0), omega (arith, is.1))
+
+abbrev pub Letters : ℕ → Type 0
+Letters ls = ls < 2 ^ 24
+
+pub letters_begin : (front : List ℕ) (bits first : ℕ) → first ≤ 121 → Reads front bits first → Begins Letters (letters_in 24 97) front
+letters_begin front bits first upto r =
+    let low : first - 97 ≤ 24 = omega arith in
+    let most : weight first ≤ 2 ^ 24 = pow_mono low in
+    record { value = bits; fits = omega (arith, r.low); rest = []; is = reads_front front bits first r }
 
 -- a byte that is no later letter
-pub reads_other : (text : List ℕ) (bits at first ls : ℕ) → at < length text → (get_or text at 0 < first) ⊎ (120 < get_or text at 0) → first ≤ 121 → Reads text bits at first → text ≡ letters_in 24 97 ls → ⊥
-reads_other text bits at first ls h other upto r e =
-    let s = r.to ls e in
-    let within = first_letter (121 - first) first s.more (get_or text at 0) (drop (at + 1) text) (sym s.rest ∙ drop_more text at 0 h) in
-    ⊎_elim (λ low. omega (arith, within.0)) (λ high. omega (arith, within.1)) other
-
--- behind the last letter
-pub reads_all : (text : List ℕ) (bits at first : ℕ) → length text ≤ at → Reads text bits at first → text ≡ letters_in 24 97 bits
-reads_all text bits at first end r = r.back 0 (drop_all at text end ∙ sym (no_bits (121 - first) first)) ∙ ap (letters_in 24 97) (omega arith)
+pub no_letter : (text : List ℕ) (bits at first : ℕ) → at < length text → (get_or text at 0 < first) ⊎ (120 < get_or text at 0) → first ≤ 121 → Reads (take at text) bits first → GoesFrom (take at text) first
+    → NoneReads Letters (letters_in 24 97) text at
+no_letter text bits at first h other upto r goes = stopped Letters (letters_in 24 97) text at h (letters_begin (take at text) bits first upto r)
+    (λ b.
+    let within = goes b.value (get_or text at 0) b.rest (next_byte Letters (letters_in 24 97) text at h b) in
+    ⊎_elim (λ low. omega (arith, within.0)) (λ high. omega (arith, within.1)) other)

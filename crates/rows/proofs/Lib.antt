@@ -1,3 +1,4 @@
+pub mod Slips
 pub mod Letters
 pub mod Gaps
 pub mod Cuts

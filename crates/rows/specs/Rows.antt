@@ -1,5 +1,5 @@
 -- A sample as a readable line: `5 ab`, or `0 -` where no letter holds.
-use Rattle.std.specs.Prelude.{◌≡◌, ℕ, zero, suc, ◌+◌, ◌/◌, ◌%◌, ◌≤◌, cond, List, [], ◌∷◌, ◌++◌, length, decimal, Result, MatchResult, ◌==◌, ◌≢◌}
+use Rattle.std.specs.Prelude.{◌≡◌, ℕ, zero, suc, ◌+◌, ◌/◌, ◌%◌, ◌<◌, ◌≤◌, cond, List, [], ◌∷◌, ◌++◌, length, take, decimal, Result, MatchResult, ◌==◌, ◌≢◌}
 use Rattle.std.specs.List.{flat_map}
 use Rattle.stream.specs.declared.sample.Sample.{Sample}
 use Rattle.stream.specs.Words.{longest_gap}
@@ -26,16 +26,27 @@ text_of ss = flat_map (λ s. row_text s ++ (10 ∷ [])) ss
 abbrev pub Sendable : Sample → Type 0
 Sendable s = s.gap ≤ longest_gap
 
--- a text was read: as the fitting value that is written so, or not, since it is the text of none
-abbrev pub NoneReads : {V : Type 0} → (V → Type 0) → (V → List ℕ) → List ℕ → Slip → Type 0
-NoneReads {V} Fits written text e = (e.column ≤ length text) × ((v : V) → Fits v → text ≢ written v)
+-- the text of a fitting value begins so
+pub record Begins {V : Type 0} (Fits : V → Type 0) (written : V → List ℕ) (front : List ℕ) : Type 0 where
+  pub value : V
+  pub fits : Fits value
+  pub rest : List ℕ
+  pub is : written value ≡ front ++ rest
 
+-- a text is that of none: up to the column it begins as one does, and with one byte more as none does
+pub record NoneReads {V : Type 0} (Fits : V → Type 0) (written : V → List ℕ) (text : List ℕ) (column : ℕ) : Type 0 where
+  pub within : column ≤ length text
+  pub none : (v : V) → Fits v → text ≢ written v
+  pub begins : Begins Fits written (take column text)
+  pub stops : column < length text → Begins Fits written (take (column + 1) text) → ⊥
+
+-- a text was read: as the fitting value that is written so, or not, since it is the text of none
 abbrev pub ReadAs : {V : Type 0} → (V → Type 0) → (V → List ℕ) → List ℕ → Result V Slip → Type 0
-ReadAs Fits written text r = MatchResult r (λ v. Fits v × (text ≡ written v)) (NoneReads Fits written text)
+ReadAs Fits written text r = MatchResult r (λ v. Fits v × (text ≡ written v)) (λ e. NoneReads Fits written text e.column)
 
 -- a line was read: as the sample whose row it is, or not, since it is the row of none
 abbrev pub NoRow : List ℕ → Slip → Type 0
-NoRow = NoneReads Sendable row_text
+NoRow line e = NoneReads Sendable row_text line e.column
 
 abbrev pub ReadRow : List ℕ → Result Sample Slip → Type 0
 ReadRow = ReadAs Sendable row_text

@@ -1,7 +1,7 @@
 //! Rows: a trace as readable lines. A row is a sample's gap in ticks, one space, and its letters or `-`, as `5 ab` or `0 -`.
-//! A line is read as the sample whose row it is, and refused only if it is the row of none; a row is written, and the bytes by which its
-//! sample is sent, to the byte. It is promised that what is sent comes back: of every list of samples whose numbers suffice, a decoder
-//! makes exactly that list, and a text of rows is that of one list only.
+//! A line is read as the sample whose row it is, and refused only if it is the row of none, at the first byte with which no row can
+//! begin any more; a row is written, and the bytes by which its sample is sent, to the byte. It is promised that what is sent comes back:
+//! of every list of samples whose numbers suffice, a decoder makes exactly that list, and a text of rows is that of one list only.
 
 #![tactic(auto)]
 

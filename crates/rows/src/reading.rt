@@ -5,6 +5,7 @@ use crate::slip::{Expected, Slip};
 use stream::Sample;
 
 /// Reads one line, without its line end. It gives the sample whose row this is, and a slip only if it is the row of none.
+/// The slip's column is that of the first byte with which no row can begin any more, or that of the line's end.
 pub fn read_row(line: &[u8]) -> Result<Sample, Slip>
     ensures { ReadRow line.now result }
 {

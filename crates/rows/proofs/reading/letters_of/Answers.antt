@@ -1,20 +1,20 @@
-use Rattle.std.proofs.Common.{ℕ, ◌+◌, ◌-◌, ◌≤◌, inl, inr, subst, sym, arith, pow_mono, get_or}
-use Rattle.rows.proofs.Letters.{Reads, reads_letter, reads_other, reads_all}
+use Rattle.std.proofs.Common.{◌≡◌, ℕ, ◌+◌, ◌-◌, ◌≤◌, subst, sym, arith, rules, pow_mono, get_or, take}
+use Rattle.rows.specs.Rows.{letters_in, NoneReads}
+use Rattle.rows.proofs.Letters.{Reads, reads_none, reads_letter, reads_all, goes_first, goes_on, no_letter, Letters}
 use Rattle.rows.proofs.Readings.{one_shifted}
 use Rattle.rows.proofs.reading.letters_of.Goals as goal
-use Rattle.rows.proofs.reading.letters_of.Goals.{then-byte-first-via-then-byte-first, then-byte-first-via-else-byte-first+then-byte-gt120}
 
 pub returns-then-byte-first : goal.returns-then-byte-first
 returns-then-byte-first c =
-    let inv = c.loop-column.invariant in (
-      omega arith,
-      λ ls low e. reads_other c.args.text.now _ c.loop-column.column c.loop-column.first ls c.loop-column-test.true
-          (elim c.then-byte-first.branch [
-            | then-byte-first-via-then-byte-first w ↦ inl w.if-byte-first.true
-            | then-byte-first-via-else-byte-first+then-byte-gt120 w ↦ inr w.if-byte-gt120.true
-          ])
-          inv.upto inv.reads e,
-    )
+    let inv = c.loop-column.invariant in
+    let column : c.loop-column.column ≡ c.at.result.column = omega arith in
+    subst (NoneReads Letters (letters_in 24 97) c.args.text.now) column
+    (no_letter c.args.text.now _ c.loop-column.column c.loop-column.first c.loop-column-test.true
+    (search rules)
+    inv.upto inv.reads inv.goes)
+
+pub loop-column-init : goal.loop-column-init
+loop-column-init c = record { from = omega arith; upto = omega arith; reads = reads_none; goes = goes_first }
 
 pub loop-column-preserved : goal.loop-column-preserved
 loop-column-preserved c =
@@ -24,8 +24,9 @@ loop-column-preserved c =
     record {
       from = omega arith;
       upto = omega arith;
-      reads = subst (λ (bits : ℕ). Reads text (c.loop-column.letters + bits) (at + 1) (get_or text at 0 + 1)) (sym (one_shifted (get_or text at 0 - 97) (omega arith)))
-          (reads_letter text _ at c.loop-column.first c.loop-column-test.true inv.from c.if-byte-first.false c.if-byte-gt120.false inv.reads);
+      reads = subst (λ (bits : ℕ). Reads (take (at + 1) text) (c.loop-column.letters + bits) (get_or text at 0 + 1)) (sym (one_shifted (get_or text at 0 - 97) (omega arith)))
+          (reads_letter text _ at c.loop-column.first c.loop-column-test.true inv.from c.if-byte-first.false (omega arith) inv.reads);
+      goes = goes_on text at c.loop-column-test.true;
     }
 
 pub returns : goal.returns

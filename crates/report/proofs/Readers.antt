@@ -1,6 +1,6 @@
 -- What a reader gave, piece by piece.
 use Rattle.std.proofs.Common.{◌≡◌, ℕ, ◌<◌, ◌≤◌, List, [], ◌++◌, take, length, Option, Result, Some, None, Ok, sym, refl, ap, ◌∙◌, subst, ⊎_elim, arith}
-use Rattle.std.specs.Prelude.{⊤, IfSome}
+use Rattle.std.specs.Prelude.{IfSome}
 use Rattle.std.specs.Io.KnownBytes.{Consumes, Keeps, Appends, ReadConsumes, IsAtEnd}
 use Rattle.std.specs.Option.{option_map}
 use Rattle.std.proofs.lemmas.Bool.{cases_order}
@@ -11,27 +11,20 @@ use Rattle.grammar.specs.declared.fault.Fault.TheVariants.{TextTooLong}
 use Rattle.grammar.specs.Faults.{refusal_of}
 use Rattle.grammar.proofs.OneFaults.{one_fault}
 use Rattle.report.specs.declared.run.Ending.{Ending}
-use Rattle.report.specs.declared.run.Ending.TheVariants.{Complete, Unreadable}
 use Rattle.report.specs.declared.run.Run.{Run}
 use Rattle.report.specs.Reports.{stop_page, judged, faulty, Reported}
 use Rattle.report.specs.Runs.{Follows, GoesOn}
-use Rattle.report.specs.Readers.{Gave, FrontReports}
+use Rattle.report.specs.Readers.{GaveFront, FrontReports}
 use Rattle.report.proofs.Followed.{passed_over}
 
--- a reader that held these bytes, if they are known, gave a front of them, and holds the rest
-abbrev pub Went : Option (List ℕ) → Option (List ℕ) → (List ℕ → Type 0) → Type 0
-Went None now P = ⊤
-Went (Some xs) None P = ⊥
-Went (Some xs) (Some rest) P = (front : List ℕ) × ((xs ≡ front ++ rest) × P front)
-
 -- before the first read
-pub begun : (known : Option (List ℕ)) (run : Run) → Went known known (λ front. GoesOn run front run)
+pub begun : (known : Option (List ℕ)) (run : Run) → GaveFront known known (λ front. GoesOn run front run)
 begun None run = tt
 begun (Some xs) run = ([], (refl, λ text bytes f. subst (λ (l : List ℕ). Follows text l run) (sym (append-nil bytes)) f))
 
 -- it gave a further piece, which the run read
 pub goes_further : (known now next : Option (List ℕ)) (piece : List ℕ) (a b c : Run)
-    → Went known now (λ front. GoesOn a front b) → Consumes now next piece → GoesOn b piece c → Went known next (λ front. GoesOn a front c)
+    → GaveFront known now (λ front. GoesOn a front b) → Consumes now next piece → GoesOn b piece c → GaveFront known next (λ front. GoesOn a front c)
 goes_further None now next piece a b c went gave on = tt
 goes_further (Some xs) None next piece a b c went gave on = absurd went
 goes_further (Some xs) (Some rest) None piece a b c went gave on = absurd gave
@@ -44,26 +37,20 @@ goes_further (Some xs) (Some rest) (Some more) piece a b c (front, (split, went)
 )
 
 -- it gave nothing at a fault
-pub goes_past : (known now next : Option (List ℕ)) (P : List ℕ → Type 0) → Went known now P → Keeps now next → Went known next P
+pub goes_past : (known now next : Option (List ℕ)) (P : List ℕ → Type 0) → GaveFront known now P → Keeps now next → GaveFront known next P
 goes_past None now next P went kept = tt
 goes_past (Some xs) None next P went kept = absurd went
 goes_past (Some xs) (Some rest) None P went kept = absurd kept
 goes_past (Some xs) (Some rest) (Some same) P (front, (split, went)) kept = (front, (split ∙ ap (λ (l : List ℕ). front ++ l) (sym kept), went))
 
--- it was left where it stands
-pub front_given : (known now : Option (List ℕ)) (P : List ℕ → Type 0) → Went known now P → IfSome known (λ xs. Gave xs Unreadable P)
-front_given None now P went = tt
-front_given (Some xs) None P went = absurd went
-front_given (Some xs) (Some rest) P (front, (split, went)) = (front, rest, (split, went))
-
 -- it came to its end: a read into some room gave no byte
 pub end_given : {E : Type 0} (known now next : Option (List ℕ)) (P : List ℕ → Type 0) (r : Result ℕ E) (n : ℕ) (buf : List ℕ)
-    → r ≡ Ok n → n ≡ 0 → 0 < length buf → ReadConsumes now next r buf → Went known now P → IfSome known (λ xs. Gave xs Complete P)
+    → r ≡ Ok n → n ≡ 0 → 0 < length buf → ReadConsumes now next r buf → GaveFront known now P → IfSome known P
 end_given {E} known now next P r n buf is none room read went =
     let given : ReadConsumes {E = E} now next (Ok 0) buf = subst (λ (q : Result ℕ E). ReadConsumes now next q buf) (is ∙ ap (λ (k : ℕ). Ok k) none) read in
     at_end known now next P went given.0 (given.1 refl room)
   where
-    at_end : (known now next : Option (List ℕ)) (P : List ℕ → Type 0) → Went known now P → Consumes now next [] → IsAtEnd next → IfSome known (λ xs. Gave xs Complete P)
+    at_end : (known now next : Option (List ℕ)) (P : List ℕ → Type 0) → GaveFront known now P → Consumes now next [] → IsAtEnd next → IfSome known P
     at_end None now next P went none end = tt
     at_end (Some xs) None next P went none end = absurd went
     at_end (Some xs) (Some rest) None P went none end = absurd none
@@ -71,8 +58,8 @@ end_given {E} known now next P r n buf is none room read went =
         subst P (sym (split ∙ ap (λ (l : List ℕ). front ++ l) (none ∙ end) ∙ append-nil front)) went
 
 -- what a run that has refused a word does not read is passed over
-pub all_passed : (known now : Option (List ℕ)) (a b : Run) (r : Refusal) → b.refused ≡ Some r → Went known now (λ front. GoesOn a front b)
-    → IfSome known (λ xs. Gave xs Complete (λ bytes. GoesOn a bytes b))
+pub all_passed : (known now : Option (List ℕ)) (a b : Run) (r : Refusal) → b.refused ≡ Some r → GaveFront known now (λ front. GoesOn a front b)
+    → IfSome known (λ bytes. GoesOn a bytes b)
 all_passed None now a b r refused went = tt
 all_passed (Some xs) None a b r refused went = absurd went
 all_passed (Some xs) (Some rest) a b r refused (front, (split, went)) = λ text bytes f.

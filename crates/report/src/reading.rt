@@ -19,7 +19,7 @@ pub fn read_text<R: Read + Drop>(source: R) -> io::Result<ArrayVec<u8, 8193>>
 impl Run {
     /// Goes through the bytes of a trace, up to their end or the first word that is refused.
     pub fn follow<R: Read>(&mut self, source: &mut R) -> Ending
-        ensures { IfSome (R.remaining source.old) (λ xs. Gave xs result (λ bytes. GoesOn self.old bytes self.new)) }
+        ensures { Gave (R.remaining source.old) (R.remaining source.new) result (λ bytes. GoesOn self.old bytes self.new) }
     {
         let mut piece = [0; 16384];
         // A loop that the end stops, and not `bytes` of a BufReader: that took a sixth longer for a trace of 100 MB.

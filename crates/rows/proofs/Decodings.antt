@@ -2,6 +2,7 @@
 use Rattle.std.proofs.Common.{◌≡◌, ℕ, Bool, true, false, cond, eqb, List, [], ◌∷◌, ◌++◌, map, Some, None, Ok, Option, Result, sym, refl, ap, ◌∙◌, subst, arith}
 use Rattle.std.specs.List.{flat_map}
 use Rattle.std.specs.Option.{option_to_list}
+use Rattle.std.specs.Result.{result_err}
 use Rattle.std.proofs.lemmas.Bool.{true≢false}
 use Rattle.stream.specs.declared.refusal.Refusal.{Refusal}
 use Rattle.stream.specs.declared.numbered.Numbered.{Numbered}
@@ -14,7 +15,7 @@ use Rattle.stream.specs.Traces.{words_in, left_in, fed_by}
 use Rattle.rows.specs.declared.decoder.Decoder.{Decoder}
 use Rattle.rows.specs.declared.decoder.Entry.{Entry}
 use Rattle.rows.specs.declared.decoder.Entry.TheVariants.{Row, End}
-use Rattle.rows.specs.Traces.{word_bytes, trace_of, entry_of, entry_in, refusal_in, TookAny, PushedAll, DecodersAnswer}
+use Rattle.rows.specs.Traces.{word_bytes, trace_of, entry_of, entry_in, TookAny, PushedAll, DecodersAnswer}
 use Rattle.rows.proofs.Feedings.{word_first, sent_words, trace_words, trace_comes_back}
 use Rattle.rows.proofs.Trips.{ahead, joins}
 
@@ -28,7 +29,7 @@ abbrev entries_in : List Answer → List Entry
 entries_in rs = flat_map (λ r. option_to_list (entry_in r)) rs
 
 abbrev refusals_in : List Answer → List Refusal
-refusals_in rs = flat_map (λ r. option_to_list (refusal_in r)) rs
+refusals_in rs = flat_map (λ r. option_to_list (result_err r)) rs
 
 -- the answers to these bytes, where their words are all taken, and the stream goes on
 record Answered (d : Decoder) (bs : List ℕ) (rs : List Answer) (e : Decoder) : Type 0 where
@@ -62,7 +63,7 @@ entry_for : (w : ℕ) (m : Option Numbered) (l : List Entry) (xs : List Numbered
 entry_for w (Some x) l xs k e = ap (λ t. Row x.sample ∷ t) e
 entry_for w None l xs k e = ap (λ (b : Bool). option_to_list (cond b (Some End) None) ++ l) k ∙ e
 
-no_refusal : (w : ℕ) (m : Option Numbered) → refusal_in (entry_of w (Ok m)) ≡ None
+no_refusal : (w : ℕ) (m : Option Numbered) → result_err (entry_of w (Ok m)) ≡ None
 no_refusal w (Some x) = refl
 no_refusal w None = refl
 
@@ -100,7 +101,7 @@ module _ (d : Decoder) (b : ℕ) (r : Answer) (c e : Decoder) (bs : List ℕ) (r
       let a = rest (sym (ap (λ (f : Fed). f.refused) same) ∙ none) (sym (ap (λ (f : Fed). f.state.ended) same) ∙ going) in
       record {
         entries = ap (λ q. option_to_list (entry_in q) ++ entries_in rs) t.0 ∙ a.entries ∙ ap (λ (f : Fed). rows f.samples) (sym same);
-        refused = ap (λ q. option_to_list (refusal_in q) ++ refusals_in rs) t.0 ∙ a.refused;
+        refused = ap (λ q. option_to_list (result_err q) ++ refusals_in rs) t.0 ∙ a.refused;
         left = a.left ∙ ap left_in (sym joined);
       }
   answered (Some w) by t none going rest =
@@ -121,7 +122,7 @@ module _ (d : Decoder) (b : ℕ) (r : Answer) (c e : Decoder) (bs : List ℕ) (r
         entries = ap (λ q. option_to_list (entry_in q) ++ entries_in rs) answer
             ∙ entry_for w m (entries_in rs) fed.samples (no_end st w later taken.1 still) (a.entries ∙ ap (λ (f : Fed). rows f.samples) next)
             ∙ ap (λ (f : Fed). rows f.samples) (sym whole);
-        refused = ap (λ q. option_to_list (refusal_in q) ++ refusals_in rs) answer ∙ ap (λ q. option_to_list q ++ refusals_in rs) (no_refusal w m) ∙ a.refused;
+        refused = ap (λ q. option_to_list (result_err q) ++ refusals_in rs) answer ∙ ap (λ q. option_to_list q ++ refusals_in rs) (no_refusal w m) ∙ a.refused;
         left = a.left ∙ ap left_in (sym joined);
       }
 

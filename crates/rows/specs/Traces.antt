@@ -2,6 +2,7 @@
 use Rattle.std.specs.Prelude.{◌≡◌, ℕ, ◌*◌, ◌≤◌, cond, List, [], ◌∷◌, ◌++◌, map, length, Some, None, Ok, Err, Option, Result, MatchResult, ◌==◌}
 use Rattle.std.specs.List.{flat_map, AllByRecursion}
 use Rattle.std.specs.Option.{option_to_list}
+use Rattle.std.specs.Result.{result_err}
 use Rattle.stream.specs.declared.refusal.Refusal.{Refusal}
 use Rattle.stream.specs.declared.sample.Sample.{Sample}
 use Rattle.stream.specs.declared.numbered.Numbered.{Numbered}
@@ -71,14 +72,10 @@ row_in (Ok (Some End)) = None
 row_in (Ok None) = None
 row_in (Err e) = None
 
--- the entry in it, and the refusal, if it is one
+-- the entry in it, if it is one
 abbrev pub entry_in : Result (Option Entry) Refusal → Option Entry
 entry_in (Ok x) = x
 entry_in (Err e) = None
-
-abbrev pub refusal_in : Result (Option Entry) Refusal → Option Refusal
-refusal_in (Ok x) = None
-refusal_in (Err e) = Some e
 
 -- bytes are given to the decoder d in turn: it answers each so, and behind them it is e
 abbrev pub PushedAll : Decoder → List ℕ → List (Result (Option Entry) Refusal) → Decoder → Type 0
@@ -100,7 +97,7 @@ TracesComeBack = (ss : List Sample) → AllByRecursion Sendable ss → length ss
 -- a decoder answered the rows of these samples and nothing else, refused nothing, and holds no byte
 pub record Decoded (ss : List Sample) (rs : List (Result (Option Entry) Refusal)) (e : Decoder) : Type 0 where
   pub entries : flat_map (λ r. option_to_list (entry_in r)) rs ≡ map Row ss
-  pub refused : flat_map (λ r. option_to_list (refusal_in r)) rs ≡ []
+  pub refused : flat_map (λ r. option_to_list (result_err r)) rs ≡ []
   pub whole : held_by e.held ≡ []
 
 -- a new decoder makes of what is sent its samples, as long as there are numbers for them

@@ -1,7 +1,7 @@
 use Rattle.std.proofs.Common.{take, sym, ◌∙◌, arith}
 use Rattle.report.specs.Runs.{GoesOn}
 use Rattle.report.proofs.Choosing.{some_of}
-use Rattle.report.proofs.Readers.{begun, goes_further, goes_past, front_given, end_given, all_passed}
+use Rattle.report.proofs.Readers.{begun, goes_further, goes_past, end_given, all_passed}
 use Rattle.report.proofs.run.Run.follow.Goals as goal
 use Rattle.report.proofs.run.Run.follow.Goals.{in-Ok+else-is_some, in-Err}
 
@@ -22,7 +22,8 @@ returns-then-is_some g c =
 
 pub returns-in-Err-2 : goal.returns-in-Err-2
 returns-in-Err-2 g c =
-    front_given (g.R.Read.remaining c.args.source.now) (g.R.Read.remaining c.loop.source) (λ front. GoesOn c.args.self.now front c.loop.self) c.loop.invariant
+    let known = g.R.Read.remaining c.args.source.now in
+    goes_past known (g.R.Read.remaining c.loop.source) (g.R.Read.remaining c.read.new.self) (λ front. GoesOn c.args.self.now front c.loop.self) c.loop.invariant c.in-Err-2.ensures.bytes
 
 pub loop-preserved : goal.loop-preserved
 loop-preserved g c =
@@ -36,5 +37,4 @@ loop-preserved g c =
     ]
 
 pub returns : goal.returns
-returns g c =
-    front_given (g.R.Read.remaining c.args.source.now) (g.R.Read.remaining c.loop.source) (λ front. GoesOn c.args.self.now front c.loop.self) c.loop.invariant
+returns g c = c.loop.invariant

@@ -9,7 +9,7 @@ use Rattle.monitor.specs.declared.pattern.Pattern.TheVariants.{Never, NeverFrom,
 
 -- what stands where there is no sample; whether a sentence below holds never hangs on it
 abbrev pub blank : Sample
-blank = record { gap = 0; letters = 0; low = lit< tt }
+blank = record { gap = 0; letters = 0; short = lit< tt; low = lit< tt }
 
 -- sample number i, from 1
 abbrev pub nth : List Sample → ℕ → Sample

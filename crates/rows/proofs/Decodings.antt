@@ -142,8 +142,8 @@ as_rows [] = refl
 as_rows (x ∷ xs) = ap (λ t. Row x.sample ∷ t) (as_rows xs)
 
 pub decoders_answer : DecodersAnswer
-decoders_answer ss hs n d e rs none new h =
-    let back = trace_comes_back ss hs n in
+decoders_answer ss n d e rs none new h =
+    let back = trace_comes_back ss n in
     let is : ahead d (trace_of ss) ≡ fed_by (trace_of ss) = (λ i. feeding (new i) (words_in (none i ++ trace_of ss))) in
     let a = decoded (trace_of ss) d e rs h (ap (λ (f : Fed). f.refused) is ∙ back.taken) (ap (λ (f : Fed). f.state.ended) is ∙ back.going) in
     record {

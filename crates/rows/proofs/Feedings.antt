@@ -1,6 +1,6 @@
 -- What is sent comes back: words of bytes, and what a feed makes of them.
 use Rattle.std.proofs.Common.{◌≡◌, ℕ, suc, ◌+◌, ◌*◌, ◌/◌, ◌%◌, ◌^◌, ◌≤◌, true, false, List, [], ◌∷◌, ◌++◌, map, length, Some, None, Option, sym, refl, ap, ◌∙◌, subst, zero-add, arith, length-append}
-use Rattle.std.specs.List.{flat_map, AllByRecursion}
+use Rattle.std.specs.List.{flat_map}
 use Rattle.std.specs.Option.{option_to_list}
 use Rattle.std.proofs.lemmas.Grind.{flat_map-append}
 use Rattle.std.proofs.lemmas.List.{append_assoc, append-nil}
@@ -12,7 +12,6 @@ use Rattle.stream.specs.Words.{State, Fed, unread, last_number, refusal, made, a
 use Rattle.stream.specs.Sending.{sample_words}
 use Rattle.stream.proofs.Same.{same_sample}
 use Rattle.stream.proofs.Sends.{reads_back}
-use Rattle.rows.specs.Rows.{Sendable}
 use Rattle.stream.specs.Traces.{words_in, fed_by}
 use Rattle.rows.specs.Traces.{word_bytes, sample_bytes, trace_of, TracesComeBack}
 
@@ -70,14 +69,14 @@ pub record AllBack (ss : List Sample) (fed : Fed) : Type 0 where
   pub samples : map (λ x. x.sample) fed.samples ≡ ss
   pub going : fed.state.ended ≡ false
 
-words_come_back : (ss : List Sample) (s : State) → AllByRecursion Sendable ss → s.pending ≡ 0 → s.ended ≡ false → s.next + length ss ≤ last_number + 1 → AllBack ss (feeding s (sent_words ss))
+words_come_back : (ss : List Sample) (s : State) → s.pending ≡ 0 → s.ended ≡ false → s.next + length ss ≤ last_number + 1 → AllBack ss (feeding s (sent_words ss))
 unfolding feeding
-words_come_back [] s hs p e n = record { taken = refl; count = refl; samples = refl; going = e }
-words_come_back (x ∷ ss) s hs p e n =
+words_come_back [] s p e n = record { taken = refl; count = refl; samples = refl; going = e }
+words_come_back (x ∷ ss) s p e n =
     let ws = sample_words x.gap x.letters in
-    let one = reads_back x.gap x.letters hs.0 x.low s p e (omega arith) in
+    let one = reads_back x.gap x.letters (omega (arith, x.short)) x.low s p e (omega arith) in
     let next : State = record { next = s.next + 1; pending = 0; begun = true; ended = false } in
-    let rest = words_come_back ss next hs.1 refl refl (omega arith) in
+    let rest = words_come_back ss next refl refl (omega arith) in
     let all = feeding_on s ws (sent_words ss) (ap (λ (f : Fed). f.refused) one.all_taken) ∙ ap (λ (f : Fed). both f (feeding f.state (sent_words ss))) one.all_taken in
     let same : one.sample ≡ x = same_sample one.sample x one.gap_is one.letters_are in
     subst (AllBack (x ∷ ss)) (sym all) (record {
@@ -87,14 +86,14 @@ words_come_back (x ∷ ss) s hs p e n =
       going = rest.going;
     })
 
-pub trace_comes_back : (ss : List Sample) → AllByRecursion Sendable ss → length ss ≤ last_number → AllBack ss (fed_by (trace_of ss))
-trace_comes_back ss hs n =
+pub trace_comes_back : (ss : List Sample) → length ss ≤ last_number → AllBack ss (fed_by (trace_of ss))
+trace_comes_back ss n =
     let words : words_in (trace_of ss) ≡ sent_words ss = ap words_in (trace_words ss) ∙ words_back (sent_words ss) in
-    subst (AllBack ss) (sym (ap (feeding unread) words)) (words_come_back ss unread hs refl refl (omega arith))
+    subst (AllBack ss) (sym (ap (feeding unread) words)) (words_come_back ss unread refl refl (omega arith))
 
 pub traces_come_back : TracesComeBack
-traces_come_back ss hs n =
-    let back = trace_comes_back ss hs n in
+traces_come_back ss n =
+    let back = trace_comes_back ss n in
     record {
       taken = back.taken;
       whole = ap length (trace_words ss) ∙ length_bytes (sent_words ss) ∙ ap (λ (k : ℕ). 4 * k) (sym back.count);
@@ -102,8 +101,8 @@ traces_come_back ss hs n =
     }
 
 -- one sample alone
-pub sample_comes_back : (s : Sample) → Sendable s → ((fed_by (sample_bytes s)).refused ≡ None) × (map (λ x. x.sample) (fed_by (sample_bytes s)).samples ≡ s ∷ [])
-sample_comes_back s h =
-    let back = traces_come_back (s ∷ []) (h, tt) (omega arith) in
+pub sample_comes_back : (s : Sample) → ((fed_by (sample_bytes s)).refused ≡ None) × (map (λ x. x.sample) (fed_by (sample_bytes s)).samples ≡ s ∷ [])
+sample_comes_back s =
+    let back = traces_come_back (s ∷ []) (omega arith) in
     let one : trace_of (s ∷ []) ≡ sample_bytes s = append-nil (sample_bytes s) in
     (ap (λ (l : List ℕ). (fed_by l).refused) (sym one) ∙ back.taken, ap (λ (l : List ℕ). map (λ (x : Numbered). x.sample) (fed_by l).samples) (sym one) ∙ back.samples)

@@ -3,7 +3,7 @@ use Rattle.std.proofs.Common.{◌≡◌, ℕ, zero, suc, ◌+◌, ◌-◌, ◌*�
 use Rattle.std.proofs.lemmas.List.{take_more, take_all}
 use Rattle.std.proofs.lemmas.Bool.{eq-eqb, ne_eqb, cases_eq}
 use Rattle.std.proofs.Math.Nat.{div-div-eq-div-mul}
-use Rattle.rows.specs.Rows.{letters_in, Begins, NoneReads}
+use Rattle.rows.specs.Rows.{letters_in, letters_text, Begins, NoneReads, Below}
 use Rattle.rows.proofs.Slips.{stopped, next_byte}
 
 pub odd_or_even : (n : ℕ) → (n % 2 ≡ 1) ⊎ (n % 2 ≡ 0)
@@ -191,19 +191,26 @@ goes_on text at h ls b rest e =
     let is = later 24 97 ls (take at text) c b rest (e ∙ ap (λ (l : List ℕ). l ++ (b ∷ rest)) (take_more text at 0 h) ∙ append_assoc (take at text) (c ∷ []) (b ∷ rest)) in
     (omega (arith, is.0), omega (arith, is.1))
 
-abbrev pub Letters : ℕ → Type 0
-Letters ls = ls < 2 ^ 24
+abbrev pub Letters : Type 0
+Letters = Below (2 ^ 24)
 
-pub letters_begin : (front : List ℕ) (bits first : ℕ) → first ≤ 121 → Reads front bits first → Begins Letters (letters_in 24 97) front
+-- the letters alone, and with `-` where there is none
+abbrev pub some_letters : Letters → List ℕ
+some_letters ls = letters_in 24 97 ls.0
+
+abbrev pub any_letters : Letters → List ℕ
+any_letters ls = letters_text ls.0
+
+pub letters_begin : (front : List ℕ) (bits first : ℕ) → first ≤ 121 → Reads front bits first → Begins some_letters front
 letters_begin front bits first upto r =
     let low : first - 97 ≤ 24 = omega arith in
     let most : weight first ≤ 2 ^ 24 = pow_mono low in
-    record { value = bits; fits = omega (arith, r.low); rest = []; is = reads_front front bits first r }
+    record { value = (bits, omega (arith, r.low)); rest = []; is = reads_front front bits first r }
 
 -- a byte that is no later letter
 pub no_letter : (text : List ℕ) (bits at first : ℕ) → at < length text → (get_or text at 0 < first) ⊎ (120 < get_or text at 0) → first ≤ 121 → Reads (take at text) bits first → GoesFrom (take at text) first
-    → NoneReads Letters (letters_in 24 97) text at
-no_letter text bits at first h other upto r goes = stopped Letters (letters_in 24 97) text at h (letters_begin (take at text) bits first upto r)
+    → NoneReads some_letters text at
+no_letter text bits at first h other upto r goes = stopped some_letters text at h (letters_begin (take at text) bits first upto r)
     (λ b.
-    let within = goes b.value (get_or text at 0) b.rest (next_byte Letters (letters_in 24 97) text at h b) in
+    let within = goes b.value.0 (get_or text at 0) b.rest (next_byte some_letters text at h b) in
     ⊎_elim (λ low. omega (arith, within.0)) (λ high. omega (arith, within.1)) other)

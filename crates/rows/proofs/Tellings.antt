@@ -5,7 +5,7 @@ use Rattle.std.proofs.lemmas.List.{append_assoc, get_or_append_left, get_or-appe
 use Rattle.std.proofs.lemmas.Bool.{cases_eq, cases_lt}
 use Rattle.stream.specs.declared.sample.Sample.{Sample}
 use Rattle.stream.proofs.Same.{same_sample}
-use Rattle.rows.specs.Rows.{letters_in, letters_text, row_text, text_of, Sendable}
+use Rattle.rows.specs.Rows.{letters_in, letters_text, row_text, text_of}
 use Rattle.rows.specs.Traces.{TextsTell}
 use Rattle.rows.proofs.Cuts.{Lacks, same_front, same_rest}
 use Rattle.rows.proofs.Gaps.{digits_of}
@@ -22,13 +22,13 @@ texts_tell a b la lb e =
     (λ some. ⊎_elim (λ z'. absurd (no_dash a some (sym (text_none b z') ∙ sym e))) (λ some'. letters_tell 24 97 a b la lb (sym (text_some a some) ∙ e ∙ text_some b some')) (cases_eq b 0))
     (cases_eq a 0)
 
-pub row_tells : (s t : Sample) → Sendable s → Sendable t → row_text s ≡ row_text t → s ≡ t
-row_tells s t hs ht e =
-    let lack = space_lacking s.gap (omega arith) in
-    let lack' = space_lacking t.gap (omega arith) in
+pub row_tells : (s t : Sample) → row_text s ≡ row_text t → s ≡ t
+row_tells s t e =
+    let lack = space_lacking s.gap s.short in
+    let lack' = space_lacking t.gap t.short in
     let gaps = same_front 32 (decimal s.gap) (letters_text s.letters) (decimal t.gap) (letters_text t.letters) lack lack' e in
     let letters = same_rest 32 (decimal s.gap) (letters_text s.letters) (decimal t.gap) (letters_text t.letters) lack lack' e in
-    same_sample s t (decimal_injective s.gap t.gap (omega arith) (omega arith) gaps) (texts_tell s.letters t.letters s.low t.low letters)
+    same_sample s t (decimal_injective s.gap t.gap (omega (arith, s.short)) (omega (arith, t.short)) gaps) (texts_tell s.letters t.letters s.low t.low letters)
 
 -- no row has a line end in it
 lacks_append : (sep : ℕ) (xs ys : List ℕ) → Lacks sep xs → Lacks sep ys → Lacks sep (xs ++ ys)
@@ -58,9 +58,9 @@ text_lacks bits =
     (λ some. rw (text_some bits some) (letters_lack 24 97 bits (omega arith)))
     (cases_eq bits 0)
 
-row_lacks : (s : Sample) → Sendable s → Lacks 10 (row_text s)
-row_lacks s h =
-    lacks_append 10 (decimal s.gap) (32 ∷ letters_text s.letters) (λ k l e. let d = digits_of s.gap (omega arith) k l in omega arith)
+row_lacks : (s : Sample) → Lacks 10 (row_text s)
+row_lacks s =
+    lacks_append 10 (decimal s.gap) (32 ∷ letters_text s.letters) (λ k l e. let d = digits_of s.gap s.short k l in omega arith)
     (lacks_append 10 (32 ∷ []) (letters_text s.letters) (lacks_one 10 32 (λ e. omega arith)) (text_lacks s.letters))
 
 some_text : (s : Sample) (ss : List Sample) → [] ≡ text_of (s ∷ ss) → ⊥
@@ -68,13 +68,13 @@ some_text s ss e =
     omega (arith, ap length e, length-append (row_text s ++ (10 ∷ [])) (text_of ss), length-append (row_text s) (10 ∷ []))
 
 pub text_tells : TextsTell
-text_tells [] [] hs ht e = refl
-text_tells [] (t ∷ ts) hs ht e = absurd (some_text t ts e)
-text_tells (s ∷ ss) [] hs ht e = absurd (some_text s ss (sym e))
-text_tells (s ∷ ss) (t ∷ ts) hs ht e =
+text_tells [] [] e = refl
+text_tells [] (t ∷ ts) e = absurd (some_text t ts e)
+text_tells (s ∷ ss) [] e = absurd (some_text s ss (sym e))
+text_tells (s ∷ ss) (t ∷ ts) e =
     let cut = sym (append_assoc (row_text s) (10 ∷ []) (text_of ss)) ∙ e ∙ append_assoc (row_text t) (10 ∷ []) (text_of ts) in
-    let lack = row_lacks s hs.0 in
-    let lack' = row_lacks t ht.0 in
-    let first : s ≡ t = row_tells s t hs.0 ht.0 (same_front 10 (row_text s) (text_of ss) (row_text t) (text_of ts) lack lack' cut) in
-    let rest : ss ≡ ts = text_tells ss ts hs.1 ht.1 (same_rest 10 (row_text s) (text_of ss) (row_text t) (text_of ts) lack lack' cut) in
+    let lack = row_lacks s in
+    let lack' = row_lacks t in
+    let first : s ≡ t = row_tells s t (same_front 10 (row_text s) (text_of ss) (row_text t) (text_of ts) lack lack' cut) in
+    let rest : ss ≡ ts = text_tells ss ts (same_rest 10 (row_text s) (text_of ss) (row_text t) (text_of ts) lack lack' cut) in
     (λ i. first i ∷ rest i)

@@ -11,7 +11,6 @@ use Rattle.stream.specs.Words.{State, Fed, state_of, unread, kind, refusal, made
 use Rattle.rows.specs.declared.decoder.Decoder.{Decoder}
 use Rattle.rows.specs.declared.decoder.Entry.{Entry}
 use Rattle.rows.specs.declared.decoder.Entry.TheVariants.{End}
-use Rattle.rows.specs.Rows.{Sendable}
 use Rattle.stream.specs.Traces.{words_in, fed_by}
 use Rattle.rows.specs.Traces.{sample_bytes, entry_of, row_in, TookAny, Pushed}
 use Rattle.rows.proofs.Feedings.{word_first, sample_comes_back}
@@ -29,10 +28,10 @@ pub record Step (s : Sample) (r : Result (Option Entry) Refusal) (fed : Fed) : T
   pub row : (x : Sample) → row_in r ≡ Some x → x ≡ s
   pub coming : row_in r ≡ None → OnlyRow s fed
 
-pub begins : (d : Decoder) (s : Sample) → Sendable s → held_by d.held ≡ [] → state_of d.feed ≡ unread → OnlyRow s (ahead d (sample_bytes s))
-begins d s h none new =
+pub begins : (d : Decoder) (s : Sample) → held_by d.held ≡ [] → state_of d.feed ≡ unread → OnlyRow s (ahead d (sample_bytes s))
+begins d s none new =
     let is : ahead d (sample_bytes s) ≡ fed_by (sample_bytes s) = (λ i. feeding (new i) (words_in (none i ++ sample_bytes s))) in
-    subst (OnlyRow s) (sym is) (sample_comes_back s h)
+    subst (OnlyRow s) (sym is) (sample_comes_back s)
 
 pub ends : (d : Decoder) (s : Sample) → OnlyRow s (ahead d []) → ⊥
 unfolding feeding

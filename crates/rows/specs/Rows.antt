@@ -2,7 +2,6 @@
 use Rattle.std.specs.Prelude.{◌≡◌, ℕ, zero, suc, ◌+◌, ◌/◌, ◌%◌, ◌<◌, ◌≤◌, cond, List, [], ◌∷◌, ◌++◌, length, take, decimal, Result, MatchResult, ◌==◌, ◌≢◌}
 use Rattle.std.specs.List.{flat_map}
 use Rattle.stream.specs.declared.sample.Sample.{Sample}
-use Rattle.stream.specs.Words.{longest_gap}
 use Rattle.rows.specs.declared.slip.Slip.{Slip}
 
 -- of n letters in alphabetical order, the first of which is `letter`, those whose bits are set, the lowest bit first
@@ -22,31 +21,30 @@ row_text s = decimal s.gap ++ (32 ∷ letters_text s.letters)
 abbrev pub text_of : List Sample → List ℕ
 text_of ss = flat_map (λ s. row_text s ++ (10 ∷ [])) ss
 
--- a gap of 32 bits, as every sample has that the code holds
-abbrev pub Sendable : Sample → Type 0
-Sendable s = s.gap ≤ longest_gap
-
--- the text of a fitting value begins so
-pub record Begins {V : Type 0} (Fits : V → Type 0) (written : V → List ℕ) (front : List ℕ) : Type 0 where
+-- the text of a value begins so
+pub record Begins {V : Type 0} (written : V → List ℕ) (front : List ℕ) : Type 0 where
   pub value : V
-  pub fits : Fits value
   pub rest : List ℕ
   pub is : written value ≡ front ++ rest
 
 -- a text is that of none: up to the column it begins as one does, and with one byte more as none does
-pub record NoneReads {V : Type 0} (Fits : V → Type 0) (written : V → List ℕ) (text : List ℕ) (column : ℕ) : Type 0 where
+pub record NoneReads {V : Type 0} (written : V → List ℕ) (text : List ℕ) (column : ℕ) : Type 0 where
   pub within : column ≤ length text
-  pub none : (v : V) → Fits v → text ≢ written v
-  pub begins : Begins Fits written (take column text)
-  pub stops : column < length text → Begins Fits written (take (column + 1) text) → ⊥
+  pub none : (v : V) → text ≢ written v
+  pub begins : Begins written (take column text)
+  pub stops : column < length text → Begins written (take (column + 1) text) → ⊥
 
--- a text was read: as the fitting value that is written so, or not, since it is the text of none
-abbrev pub ReadAs : {V : Type 0} → (V → Type 0) → (V → List ℕ) → List ℕ → Result V Slip → Type 0
-ReadAs Fits written text r = MatchResult r (λ v. Fits v × (text ≡ written v)) (λ e. NoneReads Fits written text e.column)
+-- the numbers below `top`
+abbrev pub Below : ℕ → Type 0
+Below top = (n : ℕ) × (n < top)
+
+-- a text was read: as the number below `top` that is written so, or not, since it is the text of none
+abbrev pub ReadBelow : ℕ → (ℕ → List ℕ) → List ℕ → Result ℕ Slip → Type 0
+ReadBelow top written text r = MatchResult r (λ n. (n < top) × (text ≡ written n)) (λ e. NoneReads {V = Below top} (λ n. written n.0) text e.column)
 
 -- a line was read: as the sample whose row it is, or not, since it is the row of none
 abbrev pub NoRow : List ℕ → Slip → Type 0
-NoRow line e = NoneReads Sendable row_text line e.column
+NoRow line e = NoneReads row_text line e.column
 
 abbrev pub ReadRow : List ℕ → Result Sample Slip → Type 0
-ReadRow = ReadAs Sendable row_text
+ReadRow line r = MatchResult r (λ s. line ≡ row_text s) (NoRow line)

@@ -1,6 +1,6 @@
 -- Samples as the bytes of a trace, and what is read of bytes.
 use Rattle.std.specs.Prelude.{◌≡◌, ℕ, ◌*◌, ◌≤◌, cond, List, [], ◌∷◌, ◌++◌, map, length, Some, None, Ok, Err, Option, Result, MatchResult, ◌==◌}
-use Rattle.std.specs.List.{flat_map, AllByRecursion}
+use Rattle.std.specs.List.{flat_map}
 use Rattle.std.specs.Option.{option_to_list}
 use Rattle.std.specs.Result.{result_err}
 use Rattle.stream.specs.declared.refusal.Refusal.{Refusal}
@@ -16,7 +16,7 @@ use Rattle.rows.specs.declared.slip.Slip.{Slip}
 use Rattle.rows.specs.declared.decoder.Decoder.{Decoder}
 use Rattle.rows.specs.declared.decoder.Entry.{Entry}
 use Rattle.rows.specs.declared.decoder.Entry.TheVariants.{Row, End}
-use Rattle.rows.specs.Rows.{row_text, text_of, Sendable, NoRow}
+use Rattle.rows.specs.Rows.{row_text, text_of, NoRow}
 
 -- the bytes of words, four each, the high byte first
 abbrev pub word_bytes : List ℕ → List ℕ
@@ -32,7 +32,6 @@ trace_of ss = flat_map sample_bytes ss
 -- a line was encoded: these are its sample's bytes; or it is no row
 pub record RowSent (line bytes : List ℕ) : Type 0 where
   pub sample : Sample
-  pub sendable : Sendable sample
   pub row : line ≡ row_text sample
   pub sent : bytes ≡ sample_bytes sample
 
@@ -92,7 +91,7 @@ pub record Back (ss : List Sample) (bytes : List ℕ) : Type 0 where
 
 -- what is sent comes back, as long as there are numbers for it
 abbrev pub TracesComeBack : Type 0
-TracesComeBack = (ss : List Sample) → AllByRecursion Sendable ss → length ss ≤ last_number → Back ss (trace_of ss)
+TracesComeBack = (ss : List Sample) → length ss ≤ last_number → Back ss (trace_of ss)
 
 -- a decoder answered the rows of these samples and nothing else, refused nothing, and holds no byte
 pub record Decoded (ss : List Sample) (rs : List (Result (Option Entry) Refusal)) (e : Decoder) : Type 0 where
@@ -102,9 +101,9 @@ pub record Decoded (ss : List Sample) (rs : List (Result (Option Entry) Refusal)
 
 -- a new decoder makes of what is sent its samples, as long as there are numbers for them
 abbrev pub DecodersAnswer : Type 0
-DecodersAnswer = (ss : List Sample) → AllByRecursion Sendable ss → length ss ≤ last_number → (d e : Decoder) (rs : List (Result (Option Entry) Refusal))
+DecodersAnswer = (ss : List Sample) → length ss ≤ last_number → (d e : Decoder) (rs : List (Result (Option Entry) Refusal))
     → held_by d.held ≡ [] → state_of d.feed ≡ unread → PushedAll d (trace_of ss) rs e → Decoded ss rs e
 
 -- a text is that of no two lists
 abbrev pub TextsTell : Type 0
-TextsTell = (ss ts : List Sample) → AllByRecursion Sendable ss → AllByRecursion Sendable ts → text_of ss ≡ text_of ts → ss ≡ ts
+TextsTell = (ss ts : List Sample) → text_of ss ≡ text_of ts → ss ≡ ts

@@ -7,6 +7,7 @@
 
 mod decoder;
 mod decoding;
+mod laws;
 mod reading;
 mod sending;
 mod slip;
@@ -14,6 +15,7 @@ mod trip;
 mod writing;
 
 pub use decoder::{Decoder, Entry};
+pub use laws::{decoders_tell, texts_tell, traces_tell};
 pub use reading::read_row;
 pub use sending::{SampleBytes, encode_row};
 pub use slip::{Expected, Slip};

@@ -1,5 +1,5 @@
 ghost use Rattle.std.specs.Prelude.{◌≡◌, ℕ, ◌+◌, ◌*◌, ◌^◌, ◌<◌, ◌≤◌, length, decimal, SomeIff, ◌≢◌, slice_index};
-ghost use Rattle.rows.specs.Rows.{letters_in, letters_text, ReadAs, ReadRow};
+ghost use Rattle.rows.specs.Rows.{letters_in, letters_text, ReadBelow, ReadRow};
 
 use crate::slip::{Expected, Slip};
 use stream::Sample;
@@ -36,7 +36,7 @@ fn space_at(line: &[u8]) -> usize
 /// Stops at the digit that passes the longest gap.
 #[tactic(auto, using(crate::proofs::Gaps::gap_reading))]
 fn read_gap(word: &[u8]) -> Result<u32, Slip>
-    ensures { ReadAs (λ g. g < 2 ^ 32) decimal word.now result }
+    ensures { ReadBelow (2 ^ 32) decimal word.now result }
 {
     let (first, others) = word.split_first().ok_or(Slip {
         column: 0,
@@ -71,7 +71,7 @@ fn longer(gap: u32, digit: u8) -> Option<u32>
 /// Reads the letters of a row, or `-`, behind which the line ends.
 #[tactic(auto, using(crate::proofs::Readings::letters_reading))]
 fn read_letters(text: &[u8]) -> Result<u32, Slip>
-    ensures { ReadAs (λ ls. ls < 2 ^ 24) letters_text text.now result }
+    ensures { ReadBelow (2 ^ 24) letters_text text.now result }
 {
     match text.strip_prefix(b"-") {
         Some([]) => Ok(0),
@@ -89,7 +89,7 @@ fn read_letters(text: &[u8]) -> Result<u32, Slip>
 
 /// Reads letters, which stand in alphabetical order.
 fn letters_of(text: &[u8]) -> Result<u32, Slip>
-    ensures { ReadAs (λ ls. ls < 2 ^ 24) (letters_in 24 97) text.now result }
+    ensures { ReadBelow (2 ^ 24) (letters_in 24 97) text.now result }
 {
     let mut letters = 0;
     let mut first = b'a';

@@ -1,7 +1,6 @@
 ghost use Rattle.std.specs.Prelude.{◌≡◌, Some};
 ghost use Rattle.stream.specs.declared.sample.Sample.{Sample};
-ghost use Rattle.rows.specs.Rows.{Sendable};
-ghost use Rattle.rows.specs.Traces.{sample_bytes, row_in, Returned, TracesComeBack, DecodersAnswer, TextsTell};
+ghost use Rattle.rows.specs.Traces.{sample_bytes, row_in, Returned};
 
 use crate::decoder::{Decoder, Entry};
 use crate::sending::encode_row;
@@ -10,13 +9,8 @@ use crate::writing::{RowText, write_row};
 use stream::{Refusal, Sample};
 
 /// Encodes a line, decodes its bytes, and writes the row of what came back: the same line.
-/// What holds of every list of samples, of its bytes, of what a decoder makes of them, and of its text, is promised with it.
-#[tactic(auto, using(crate::proofs::Feedings::traces_come_back, crate::proofs::Decodings::decoders_answer, crate::proofs::Tellings::text_tells))]
 pub fn there_and_back(line: &[u8]) -> Result<RowText, Slip>
-    ensures row { Returned line.now result }
-    ensures traces { TracesComeBack }
-    ensures decoders { DecodersAnswer }
-    ensures texts { TextsTell }
+    ensures { Returned line.now result }
 {
     let bytes = encode_row(line)?;
     let sample = first_row(&bytes).unwrap();
@@ -25,7 +19,7 @@ pub fn there_and_back(line: &[u8]) -> Result<RowText, Slip>
 
 /// The first row of a trace.
 fn first_row(bytes: &[u8]) -> Option<Sample>
-    ensures { (s : Sample) → Sendable s → bytes.now ≡ sample_bytes s → result ≡ Some s }
+    ensures { (s : Sample) → bytes.now ≡ sample_bytes s → result ≡ Some s }
 {
     let mut decoder = Decoder::new();
     // A loop, and no `find_map`, which was tried: of a closure that changes the decoder the check knows nothing afterwards.

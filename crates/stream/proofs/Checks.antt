@@ -1,5 +1,6 @@
 -- Which check of a word fails first, from what is known of the word and the state.
 use Rattle.std.proofs.Common.{◌≡◌, ℕ, ◌+◌, ◌/◌, ◌%◌, ◌^◌, ◌<◌, ◌≤◌, true, false, Some, None, Ok, Err, Option, sym, ap, ◌∙◌, arith}
+use Rattle.std.proofs.Math.Nat.{min-eq_left}
 use Rattle.std.proofs.lemmas.Bool.{lt-ltb, le-ltb, ne_eqb}
 use Rattle.stream.specs.declared.refusal.Refusal.{Refusal}
 use Rattle.stream.specs.declared.refusal.Refusal.TheVariants.{StreamEnded, UnusedKind, GapTooLong, HighLetter, NumbersSpent, EndPayload, GapAtEnd}
@@ -62,8 +63,9 @@ module _ (s : State) (w : ℕ) where
 
   made_sample : (x : Numbered) → kind w ≡ 1 → load w / 2 ^ 24 ≤ 0 → x.number ≡ s.next → x.sample.gap ≡ s.pending → x.sample.letters ≡ load w → Some x ≡ made s w
   made_sample x k h n g l =
+      let short : s.pending ≤ longest_gap = omega (arith, g, x.sample.short) in
       let low : load w ≡ w % 2 ^ 24 = omega arith in
-      let same : x.sample ≡ sample_in s.pending w = same_sample x.sample (sample_in s.pending w) g (l ∙ low) in
+      let same : x.sample ≡ sample_in s.pending w = same_sample x.sample (sample_in s.pending w) (g ∙ sym (min-eq_left short)) (l ∙ low) in
       rw k (λ i. Some (record { number = n i; sample = same i }))
 
   -- the three kinds of word that are taken

@@ -1,5 +1,6 @@
 -- What the sender writes, and what a feed reads of it.
 use Rattle.std.proofs.Common.{◌≡◌, ℕ, zero, suc, ◌+◌, ◌-◌, ◌*◌, ◌/◌, ◌%◌, ◌^◌, ◌<◌, ◌≤◌, Bool, true, false, cond, not, eqb, List, [], ◌∷◌, ◌++◌, length, get_or, take, drop, set, replicate, IfOk, Some, None, Ok, Option, Result, sym, refl, ap, ◌∙◌, subst, append_assoc, arith, length-append}
+use Rattle.std.proofs.Math.Nat.{min-eq_left}
 use mir.Val.{bool_byte}
 use Rattle.std.proofs.lemmas.List.{set_at, take_at, drop_more, length-replicate}
 use Rattle.std.proofs.lemmas.Bool.{le-ltb, eqb-true}
@@ -83,15 +84,16 @@ put_checked gap letters out r after h p =
     subst (λ o. Put o ws out r after) (sym (ap (λ b. first_of (when b HighLetter ∷ too_short ws out ∷ [])) (le-ltb 0 (letters / 2 ^ 24) h) ∙ first_last (too_short ws out))) p
 
 -- reading back, word by word
-read_letters : (s : State) (letters : ℕ) → letters < 2 ^ 24 → s.ended ≡ false → s.next ≤ last_number → ReadAs s.pending letters s ((2 ^ 30 + letters) ∷ [])
+read_letters : (s : State) (letters : ℕ) → s.pending ≤ longest_gap → letters < 2 ^ 24 → s.ended ≡ false → s.next ≤ last_number
+    → ReadAs s.pending letters s ((2 ^ 30 + letters) ∷ [])
 unfolding feeding
-read_letters s letters low e n =
+read_letters s letters short low e n =
     let w : ℕ = 2 ^ 30 + letters in
     let k : kind w ≡ 1 = omega arith in
     let same : w % 2 ^ 24 ≡ letters = omega arith in
     record {
       sample = sample_in s.pending w;
-      gap_is = refl;
+      gap_is = min-eq_left short;
       letters_are = same;
       all_taken = ap (λ o. onward o s (made s w) (feeding (after s w) [])) (is_sample s w e k (omega arith) n) ∙ rw k;
     }
@@ -129,11 +131,11 @@ read_tail s rest letters low small e n h = go (eqb rest 0) refl
     go : (b : Bool) → eqb rest 0 ≡ b → ReadAs (s.pending + rest) letters s (cond b [] (rest ∷ []) ++ (2 ^ 30 + letters) ∷ [])
     go true z =
         let none : s.pending ≡ s.pending + rest = omega (arith, eqb-true rest 0 z) in
-        subst (λ g. ReadAs g letters s ((2 ^ 30 + letters) ∷ [])) none (read_letters s letters low e n)
+        subst (λ g. ReadAs g letters s ((2 ^ 30 + letters) ∷ [])) none (read_letters s letters (omega arith) low e n)
     go false z =
         let pending : (after s rest).pending ≡ s.pending + rest = rw (k, same) in
         read_gap s rest _ (s.pending + rest) letters k e (omega (arith, same))
-        (subst (λ g. ReadAs g letters (after s rest) ((2 ^ 30 + letters) ∷ [])) pending (read_letters (after s rest) letters low (rw k) (rw k n)))
+        (subst (λ g. ReadAs g letters (after s rest) ((2 ^ 30 + letters) ∷ [])) pending (read_letters (after s rest) letters (omega (arith, pending)) low (rw k) (rw k n)))
 
 read_fulls : (fulls : ℕ) (s : State) (ws : List ℕ) (gap letters : ℕ) → s.ended ≡ false → s.pending + fulls * full_gap ≤ longest_gap
     → ((t : State) → t.next ≡ s.next → t.pending ≡ s.pending + fulls * full_gap → t.ended ≡ false → ReadAs gap letters t ws)

@@ -1,6 +1,7 @@
 -- What the words of a stream say, and what a feed makes of them.
-use Rattle.std.specs.Prelude.{◌≡◌, ℕ, suc, ◌+◌, ◌/◌, ◌%◌, ◌^◌, Bool, true, false, cond, ◌&&◌, ◌||◌, List, [], ◌∷◌, ◌++◌, Some, None, Ok, Err, Option, Result, ◌==◌, nat_lt}
+use Rattle.std.specs.Prelude.{◌≡◌, ℕ, suc, ◌+◌, ◌/◌, ◌%◌, ◌^◌, min, Bool, true, false, cond, ◌&&◌, ◌||◌, List, [], ◌∷◌, ◌++◌, Some, None, Ok, Err, Option, Result, ◌==◌, nat_lt}
 use Rattle.std.proofs.Common.{mod-lt, lit<}
+use Rattle.std.proofs.Math.Nat.{lt_of_le_of_lt, min-le_right}
 use Rattle.std.specs.Option.{option_to_list}
 use Rattle.stream.specs.declared.refusal.Refusal.{Refusal}
 use Rattle.stream.specs.declared.refusal.Refusal.TheVariants.{StreamEnded, UnusedKind, GapTooLong, HighLetter, NumbersSpent, EndPayload, GapAtEnd, WordTaken, BadStart}
@@ -66,8 +67,14 @@ unfoldable pub refusal : State → ℕ → Option Refusal
 refusal s w = first_of (checks s w)
 
 -- the sample in a word of kind 1, where the gap is g
+-- `min` only gives each number a sample: no feed has more than the longest gap pending, since a word that would pass it is refused
 abbrev pub sample_in : ℕ → ℕ → Sample
-sample_in g w = record { gap = g; letters = w % 2 ^ 24; low = mod-lt w (lit< tt) }
+sample_in g w = record {
+  gap = min g longest_gap;
+  letters = w % 2 ^ 24;
+  short = lt_of_le_of_lt (min-le_right g longest_gap) (lit< tt);
+  low = mod-lt w (lit< tt);
+}
 
 -- the sample that a word makes, and the state after it, where it is not refused
 abbrev pub made : State → ℕ → Option Numbered

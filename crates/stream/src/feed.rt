@@ -1,4 +1,4 @@
-ghost use Rattle.std.specs.Prelude.{◌≤◌};
+ghost use Rattle.std.specs.Prelude.{◌^◌, ◌<◌, ◌≤◌};
 
 /// The last number that a sample can have.
 pub const LAST_NUMBER: u64 = 999_999_999_999;
@@ -19,4 +19,5 @@ pub struct Feed {
     pub(crate) stage: Stage,
     ghost from: { 1 ≤ next },
     ghost upto: { next ≤ 1000000000000 },
+    ghost short: { pending < 2 ^ 32 },
 }

@@ -9,6 +9,7 @@ use crate::refusal::Refusal;
 pub struct Sample {
     gap: u32,
     letters: u32,
+    ghost short: { gap < 2 ^ 32 },
     ghost low: { letters < 2 ^ 24 },
 }
 

@@ -1,6 +1,6 @@
 use Rattle.std.proofs.Common.{◌≡◌, ℕ, ◌+◌, ◌-◌, ◌≤◌, subst, sym, arith, rules, pow_mono, get_or, take}
-use Rattle.rows.specs.Rows.{letters_in, NoneReads}
-use Rattle.rows.proofs.Letters.{Reads, reads_none, reads_letter, reads_all, goes_first, goes_on, no_letter, Letters}
+use Rattle.rows.specs.Rows.{NoneReads}
+use Rattle.rows.proofs.Letters.{Reads, reads_none, reads_letter, reads_all, goes_first, goes_on, no_letter, some_letters}
 use Rattle.rows.proofs.Readings.{one_shifted}
 use Rattle.rows.proofs.reading.letters_of.Goals as goal
 
@@ -8,7 +8,7 @@ pub returns-then-byte-first : goal.returns-then-byte-first
 returns-then-byte-first c =
     let inv = c.loop-column.invariant in
     let column : c.loop-column.column ≡ c.at.result.column = omega arith in
-    subst (NoneReads Letters (letters_in 24 97) c.args.text.now) column
+    subst (NoneReads some_letters c.args.text.now) column
     (no_letter c.args.text.now _ c.loop-column.column c.loop-column.first c.loop-column-test.true
     (search rules)
     inv.upto inv.reads inv.goes)

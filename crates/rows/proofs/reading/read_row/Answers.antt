@@ -1,14 +1,14 @@
-use Rattle.std.proofs.Common.{◌≡◌, ℕ, ◌+◌, ◌<◌, List, [], ◌∷◌, length, drop, decimal, Some, None, Ok, Err, Result, MatchResult, sym, ap, ◌∙◌, subst, arith, rules}
+use Rattle.std.proofs.Common.{◌≡◌, ℕ, ◌+◌, ◌<◌, List, [], ◌∷◌, length, drop, Some, None, Ok, Err, Result, MatchResult, sym, ap, ◌∙◌, subst, arith, rules}
 use Rattle.std.specs.Result.{IsErrAnd}
-use Rattle.rows.specs.Rows.{NoneReads, Sendable, row_text, letters_text}
+use Rattle.rows.specs.Rows.{NoneReads, row_text}
 use Rattle.rows.specs.declared.slip.Slip.{Slip}
 use Rattle.std.proofs.lemmas.Bool.Decides.{Decides-eqb}
 use Rattle.std.proofs.lemmas.List.{drop_more, drop-drop}
 use Rattle.std.proofs.lemmas.Result.{err_from_is_err_and}
 use Rattle.std.proofs.lemmas.Slice.Eq.{strip_prefix_is}
 use Rattle.rows.proofs.Cuts.{FirstAt}
-use Rattle.rows.proofs.Gaps.{Gap}
-use Rattle.rows.proofs.Letters.{Letters}
+use Rattle.rows.proofs.Gaps.{gap_text}
+use Rattle.rows.proofs.Letters.{any_letters}
 use Rattle.rows.proofs.Readings.{word_slip, end_slip, letters_slip}
 use Rattle.rows.proofs.reading.read_row.Goals as goal
 use Rattle.rows.proofs.reading.read_row.Goals.{After-space_at-space, at-returns-in_err-gap, at-returns-in_default, at-returns-in_err-letters}
@@ -22,7 +22,7 @@ returns-in_err-gap c =
     let p = err_from_is_err_and c.from_residual.result c.from_residual.ensures.1 in
     let before = (at-returns-in_err-gap c).After-space_at-space in
     let column = c.in_err-gap.field-0.0.column in
-    let word = subst (λ (w : List ℕ). NoneReads Gap decimal w column) c.split_at.ensures.front c.in_err-gap.ensures in
+    let word = subst (λ (w : List ℕ). NoneReads gap_text w column) c.split_at.ensures.front c.in_err-gap.ensures in
     rw (p.1, p.2) (word_slip line c.space_at-space.result (first before) c.space_at-space.ensures.within column word)
 
 pub returns-in_default : goal.returns-in_default
@@ -54,6 +54,6 @@ returns-in_err-letters c =
     let within : space < length line = omega (arith, ap length text, c.split_at.ensures.back_len) in
     let column : slip.0.column + (space + 1) ≡ c.in_err-letters.field-0.0.column = let told = slip.2 in search rules in
     let rest : c.in-Some.text.now ≡ drop (space + 1) line = c.in-Some.ensures.cases.1 ∙ ap (drop 1) c.split_at.ensures.back ∙ drop-drop 1 space line in
-    let letters = subst (λ (t : List ℕ). NoneReads Letters letters_text t slip.0.column) rest slip.1 in
-    rw (p.1, p.2) (subst (NoneReads Sendable row_text line) column
+    let letters = subst (λ (t : List ℕ). NoneReads any_letters t slip.0.column) rest slip.1 in
+    rw (p.1, p.2) (subst (NoneReads row_text line) column
     (letters_slip line space (first before) c.space_at-space.ensures.within c.in_ok-gap.gap gap.0 (sym c.split_at.ensures.front ∙ gap.1) within slip.0.column letters))

@@ -5,7 +5,7 @@ use Rattle.stream.specs.declared.sample.Sample.{Sample}
 use Rattle.grammar.specs.declared.tree.Line.{Line}
 use Rattle.book.specs.declared.book.Book.{Book}
 use Rattle.book.specs.Meaning.{ClauseFails}
-use Rattle.book.specs.Seating.{at_seat, seats_of, book_fails, number_at}
+use Rattle.book.specs.Seating.{at_seat, book_meaning, number_at}
 
 -- seat k is line k, and what that line says fails on the list
 abbrev pub SeatFails : List Line → ℕ → List Sample → Type 0
@@ -17,6 +17,6 @@ said_number ls k = option_map (λ line. line.number.value) (at_seat ls k)
 
 -- the book of these lines, before any sample: a seat for each, lost where its line says so, with its line's number
 pub record Holds (b : Book) (ls : List Line) : Type 0 where
-  pub seats : seats_of b ≡ length ls
-  pub meaning : (l : List Sample) (k : ℕ) → Decides (book_fails b l k) (SeatFails ls k l)
+  pub seats : (book_meaning b).count ≡ length ls
+  pub meaning : (l : List Sample) (k : ℕ) → Decides ((book_meaning b).lost l k) (SeatFails ls k l)
   pub numbers : (k : ℕ) → number_at b k ≡ said_number ls k

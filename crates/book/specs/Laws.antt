@@ -1,7 +1,6 @@
--- A clause that fails keeps failing, and a new one does not fail on no samples; a seat that is lost is within the count and stays lost.
+-- A clause that fails keeps failing, and a new one does not fail on no samples; a book meets the laws of a panel.
 use Rattle.std.specs.Prelude.{◌≡◌, ℕ, zero, suc, ◌≤◌, true, false, List, [], ◌++◌, length, None, Some, Option, refl}
 use Rattle.std.proofs.Common.{sym, ap, ◌∙◌, ⊎_elim, arith}
-use Rattle.std.specs.List.{slice_get}
 use Rattle.std.proofs.lemmas.Bool.{cases_lt, false≢true}
 use Rattle.std.proofs.lemmas.Option.{slice_get_past}
 use Rattle.stream.specs.declared.sample.Sample.{Sample}
@@ -9,8 +8,10 @@ use Rattle.monitor.specs.declared.rule.Rule.{Rule}
 use Rattle.monitor.specs.Turns.{unjudged, fails_rule, fresh_rule}
 use Rattle.monitor.specs.Laws.{stays_on}
 use Rattle.layers.specs.Laws.{Lasting, after_lasting, after_lasting_new, allow_lasting, allow_lasting_new, allow_none, either_lasting, either_none, choice_lasting, choice_none}
+use Rattle.panel.specs.Panels.{Lawful}
 use Rattle.book.specs.declared.clause.Clause.{Clause}
-use Rattle.book.specs.Seating.{at_seat, fails_at}
+use Rattle.book.specs.declared.book.Book.{Book}
+use Rattle.book.specs.Seating.{at_seat, clauses_of, fails_at, book_meaning}
 use Rattle.book.specs.Clauses.{Guarded, Body, fails_guarded, fresh_guarded, fails_body, fresh_body, fails_clause, fresh_clause}
 
 pub guarded_lasting : (m : Guarded) → Lasting (fails_guarded m)
@@ -51,3 +52,7 @@ pub seat_within : (cs : List Clause) (l : List Sample) (k : ℕ) → fails_at (a
 seat_within cs l zero e = absurd (false≢true e)
 seat_within cs l (suc k) e =
     ⊎_elim (λ lt. (omega arith, omega arith)) (λ ge. absurd (false≢true (ap (λ c. fails_at c l) (sym (slice_get_past cs k ge)) ∙ e))) (cases_lt k (length cs))
+
+pub book_lawful : (b : Book) → Lawful (book_meaning b)
+book_lawful b = record
+    { size = (b.some, b.few); within = seat_within (clauses_of b); lasting = λ l h k. at_lasting (at_seat (clauses_of b) k) l h }

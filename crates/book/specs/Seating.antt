@@ -4,6 +4,7 @@ use Rattle.std.specs.List.{slice_get}
 use Rattle.std.specs.Option.{option_map}
 use Rattle.stream.specs.declared.sample.Sample.{Sample}
 use Rattle.arrayvec.specs.ArrayVec.{array_vec_len}
+use Rattle.panel.specs.Panels.{Meaning}
 use Rattle.book.specs.declared.clause.Clause.{Clause}
 use Rattle.book.specs.declared.book.Book.{Book}
 use Rattle.book.specs.Clauses.{fails_clause}
@@ -13,11 +14,7 @@ abbrev pub at_seat : {T : Type 0} → List T → ℕ → Option T
 at_seat xs zero = None
 at_seat xs (suc k) = slice_get xs k
 
--- how many seats a book has
-abbrev pub seats_of : Book → ℕ
-seats_of b = array_vec_len b.clauses
-
--- its clauses, from seat 1 on
+-- the clauses of a book, from seat 1 on
 abbrev pub clauses_of : Book → List Clause
 clauses_of b = b.clauses.items
 
@@ -26,9 +23,9 @@ abbrev pub fails_at : Option Clause → List Sample → Bool
 fails_at None l = false
 fails_at (Some c) l = fails_clause c l
 
--- whether seat k is lost on a list
-abbrev pub book_fails : Book → List Sample → ℕ → Bool
-book_fails b l k = fails_at (at_seat (clauses_of b) k) l
+-- a seat for each clause, lost where its clause fails
+abbrev pub book_meaning : Book → Meaning
+book_meaning b = record { count = array_vec_len b.clauses; lost = λ l k. fails_at (at_seat (clauses_of b) k) l }
 
 -- the number of a clause, if there is one
 abbrev pub number_of : Option Clause → Option ℕ

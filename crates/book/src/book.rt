@@ -1,5 +1,4 @@
 ghost use Rattle.std.specs.Prelude.{◌≡◌, ◌≤◌, ℕ, List, [], ◌∷◌, length, IfErr};
-ghost use Rattle.stream.specs.declared.sample.Sample.{Sample};
 ghost use Rattle.arrayvec.specs.ArrayVec.{array_vec_len};
 
 use crate::clause::Clause;
@@ -68,24 +67,18 @@ impl Book {
 
 impl Panel for Book {
     ghost use Rattle.panel.specs.Seating.{has_seat};
-    ghost use Rattle.book.specs.Seating.{seats_of, book_fails, number_at, at_seat, clauses_of};
-    ghost use Rattle.book.specs.Laws.{seat_within, at_lasting};
+    ghost use Rattle.panel.specs.Panels.{PanelAfter};
+    ghost use Rattle.book.specs.Seating.{book_meaning, number_at};
+    ghost use Rattle.book.specs.Laws.{book_lawful};
 
-    ghost count = { seats_of };
+    ghost meaning = { book_meaning };
 
-    ghost fails = { book_fails };
-
-    ghost size = { λ m. (m.some, m.few) };
-
-    ghost within = { λ m l k e. seat_within (clauses_of m) l k e };
-
-    ghost lasting = { λ m l h k e. at_lasting (at_seat (clauses_of m) k) l h e };
+    ghost lawful = { book_lawful };
 
     // An impl's clauses stand in place of its trait's: these are said again beside `numbered`.
     fn judge(&mut self, sample: Sample) -> Seats
-        ensures seated { seats_of self.new ≡ seats_of self.old }
-        ensures after { (l : List Sample) (k : ℕ) → book_fails self.new l k ≡ book_fails self.old (sample ∷ l) k }
-        ensures answer { (k : ℕ) → has_seat result k ≡ book_fails self.new [] k }
+        ensures after { PanelAfter (book_meaning self.old) (sample ∷ []) (book_meaning self.new) }
+        ensures answer { (k : ℕ) → has_seat result k ≡ (book_meaning self.new).lost [] k }
         ensures numbered { (k : ℕ) → number_at self.new k ≡ number_at self.old k }
     {
         let mut lost = Seats::none();

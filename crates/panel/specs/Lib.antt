@@ -1,3 +1,4 @@
 pub mod Seating
+pub mod Panels
 pub mod Single
 pub mod Laws

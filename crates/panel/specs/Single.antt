@@ -1,13 +1,9 @@
 -- The panel of one seat over a monitor.
-use Rattle.std.specs.Prelude.{ℕ, Bool, ◌&&◌, List, ◌==◌}
+use Rattle.std.specs.Prelude.{◌&&◌, Bool, List, ◌==◌}
 use Rattle.stream.specs.declared.sample.Sample.{Sample}
 use Rattle.panel.specs.declared.solo.Solo.{Solo}
+use Rattle.panel.specs.Panels.{Meaning}
 
-module _ {M : Type 0} where
-  -- how many seats it has
-  abbrev pub count_solo : Solo M → ℕ
-  count_solo m = 1
-
-  -- whether seat k is lost on a list, where F says on which lists a monitor fails
-  abbrev pub fails_solo : (M → List Sample → Bool) → Solo M → List Sample → ℕ → Bool
-  fails_solo F m l k = k == 1 && F m.monitor l
+-- seat 1 is lost where the monitor fails, where F says on which lists it does
+abbrev pub solo_meaning : {M : Type 0} → (M → List Sample → Bool) → Solo M → Meaning
+solo_meaning F m = record { count = 1; lost = λ l k. k == 1 && F m.monitor l }

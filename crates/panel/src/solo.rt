@@ -1,9 +1,8 @@
 ghost use Rattle.std.specs.Prelude.{◌≡◌, ℕ, true, ◌&&◌, List, Decides, ◌==◌};
 ghost use Rattle.stream.specs.declared.sample.Sample.{Sample};
 ghost use Rattle.panel.specs.Seating.{has_seat};
-ghost use Rattle.panel.specs.Single.{count_solo, fails_solo};
-ghost use Rattle.panel.specs.Laws.{solo_within, solo_lasting};
-ghost use Rattle.std.proofs.Common.{lit≤};
+ghost use Rattle.panel.specs.Single.{solo_meaning};
+ghost use Rattle.panel.specs.Laws.{solo_lawful};
 
 use crate::judging::Panel;
 use crate::seats::Seats;
@@ -19,8 +18,8 @@ pub struct Solo<M> {
 impl<M: Monitor> Solo<M> {
     /// Seats the monitor as it stands.
     pub fn new(monitor: M) -> Solo<M>
-        ensures seats { count_solo result ≡ 1 }
-        ensures meaning { (l : List Sample) (k : ℕ) → Decides (fails_solo M.fails_now result l k) ((k ≡ 1) × (M.fails_now monitor l ≡ true)) }
+        ensures seats { (solo_meaning M.fails_now result).count ≡ 1 }
+        ensures meaning { (l : List Sample) (k : ℕ) → Decides ((solo_meaning M.fails_now result).lost l k) ((k ≡ 1) × (M.fails_now monitor l ≡ true)) }
     {
         Solo { monitor }
     }
@@ -34,15 +33,9 @@ fn first_where(lost: bool) -> Seats
 }
 
 impl<M: Monitor> Panel for Solo<M> {
-    ghost count = { count_solo };
+    ghost meaning = { solo_meaning M.fails_now };
 
-    ghost fails = { fails_solo M.fails_now };
-
-    ghost size = { λ m. (lit≤ tt, lit≤ tt) };
-
-    ghost within = { λ m. solo_within M.fails_now m };
-
-    ghost lasting = { λ m. solo_lasting M.fails_now m (M.lasting_now m.monitor) };
+    ghost lawful = { λ m. solo_lawful M.fails_now m (M.lasting_now m.monitor) };
 
     fn judge(&mut self, sample: Sample) -> Seats {
         first_where(judge_on(&mut self.monitor, sample))

@@ -26,8 +26,8 @@ fn no_seat(rt: HostRuntime) {
 
 /// What any panel answers at one sample and then at another: the seats lost on the first, and on both.
 fn judge_two<P: Panel>(panel: &mut P, first: Sample, second: Sample) -> (Seats, Seats)
-    ensures one { (k : ℕ) → has_seat result.0 k ≡ P.fails panel.old (first ∷ []) k }
-    ensures both { (k : ℕ) → has_seat result.1 k ≡ P.fails panel.old (first ∷ second ∷ []) k }
+    ensures one { (k : ℕ) → has_seat result.0 k ≡ (P.meaning panel.old).lost (first ∷ []) k }
+    ensures both { (k : ℕ) → has_seat result.1 k ≡ (P.meaning panel.old).lost (first ∷ second ∷ []) k }
 {
     let one = panel.judge(first);
     (one, panel.judge(second))

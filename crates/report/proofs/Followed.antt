@@ -2,17 +2,17 @@
 use Rattle.std.proofs.Common.{◌≡◌, ℕ, ◌+◌, List, [], ◌∷◌, ◌++◌, Some, None, sym, ap, ◌∙◌, subst, arith}
 use Rattle.stream.specs.declared.refusal.Refusal.{Refusal}
 use Rattle.stream.specs.Bytes.{held_by, bytes_of}
-use Rattle.book.specs.Seating.{seats_of, book_fails}
+use Rattle.book.specs.Seating.{book_meaning}
 use Rattle.watch.specs.Account.{Account, account, Delivered}
-use Rattle.watch.proofs.Deliveries.{nothing, joined, stopped}
+use Rattle.watch.proofs.Deliveries.{nothing, then, stopped}
 use Rattle.report.specs.declared.run.Run.{Run}
 use Rattle.stream.specs.Traces.{words_in, left_in}
-use Rattle.report.specs.Stories.{Opens}
+use Rattle.terms_watch.specs.Stories.{Opens}
 use Rattle.report.specs.Runs.{Follows}
 use Rattle.report.proofs.Traces.{words_on, left_on, held_words, held_left, word_whole}
 
 abbrev pub watched : Run → Account
-watched run = account seats_of book_fails run.watch
+watched run = account book_meaning run.watch
 
 -- before any byte
 pub fresh : (text : List ℕ) (run : Run) → Opens text (watched run) run.terms → run.refused ≡ None → held_by run.held ≡ [] → Follows text [] run
@@ -46,7 +46,7 @@ goes_on text before ys run next n none same d held f = record {
   opens = subst (Opens text f.start) (sym same) f.opens;
   count = f.count + n;
   delivered = subst (λ (ws : List ℕ). Delivered f.start ws (watched next) (f.count + n) next.refused) (sym (words_on before ys))
-      (joined f.start (watched run) (watched next) (words_in before) (words_in (left_in before ++ ys)) f.count n next.refused
+      (then f.start (watched run) (watched next) (words_in before) (words_in (left_in before ++ ys)) f.count n next.refused
       (subst (Delivered f.start (words_in before) (watched run) f.count) none f.delivered) d);
   held = λ e. held e ∙ sym (left_on before ys);
 }

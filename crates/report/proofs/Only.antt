@@ -7,10 +7,10 @@ use Rattle.grammar.specs.Faults.{refusal_of}
 use Rattle.grammar.proofs.OneFaults.{one_book, one_fault}
 use Rattle.book.specs.Books.{SeatFails}
 use Rattle.watch.specs.declared.notice.Notice.{Notice}
-use Rattle.watch.specs.Story.{NoticesBy}
+use Rattle.watch.specs.Notices.{NoticesBy}
 use Rattle.watch.proofs.Only.{same}
 use Rattle.stream.specs.Traces.{fed_by}
-use Rattle.report.specs.Stories.{term_of}
+use Rattle.terms_watch.specs.Stories.{term_of}
 use Rattle.report.specs.Reports.{stop_by, last_line, notice_lines, page_of, stop_page, judged, faulty, OneReport}
 
 one_list : (ls : List Line) (T : List Numbered) (xs ys : List Notice) → NoticesBy (SeatFails ls) T xs → NoticesBy (SeatFails ls) T ys → xs ≡ ys

@@ -1,4 +1,3 @@
-pub mod Stories
 pub mod Reports
 pub mod Runs
 pub mod Readers

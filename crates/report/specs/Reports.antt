@@ -11,12 +11,12 @@ use Rattle.grammar.specs.Books.{IsBook, BookFault}
 use Rattle.book.specs.Books.{SeatFails}
 use Rattle.watch.specs.declared.notice.Notice.{Notice}
 use Rattle.watch.specs.Words.{refusal_in}
-use Rattle.watch.specs.Story.{NoticesBy}
+use Rattle.watch.specs.Notices.{NoticesBy}
 use Rattle.printout.specs.Lines.{header_line, notice_line, done_line, stop_line}
 use Rattle.report.specs.declared.run.Ending.{Ending}
 use Rattle.report.specs.declared.run.Ending.TheVariants.{Complete, Unreadable}
 use Rattle.stream.specs.Traces.{left_in, fed_by}
-use Rattle.report.specs.Stories.{term_of}
+use Rattle.terms_watch.specs.Stories.{term_of}
 
 -- why a run on these bytes stops, if it does: a word that is refused; then, at the end of the file, bytes that are left over; or that the
 -- file could not be read to its end

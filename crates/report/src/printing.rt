@@ -1,13 +1,13 @@
 ghost use Rattle.std.specs.Prelude.{◌≡◌, ◌+◌, ◌*◌, ◌≤◌, [], ◌∷◌, ◌++◌, length};
 ghost use Rattle.stream.specs.Refusals.{number_of};
 ghost use Rattle.printout.specs.Lines.{header_line};
-ghost use Rattle.report.specs.Stories.{term_at};
+ghost use Rattle.terms_watch.specs.Stories.{term_at};
 ghost use Rattle.report.specs.Reports.{printed, notice_lines, stop_page};
 ghost use Rattle.report.specs.Runs.{bytes_on};
 
-use crate::opening::ClauseNumbers;
 use crate::page::Page;
 use stream::Refusal;
+use terms_watch::ClauseNumbers;
 use watch::Notice;
 
 impl Page {

@@ -1,6 +1,6 @@
 ghost use Rattle.std.specs.Prelude.{◌≡◌, IfOk, IfSome, take};
 ghost use Rattle.report.specs.Runs.{GoesOn};
-ghost use Rattle.report.specs.Readers.{Gave, FrontReports};
+ghost use Rattle.report.specs.Readers.{Gave};
 
 use crate::run::{Ending, Run};
 use arrayvec::ArrayVec;
@@ -8,8 +8,7 @@ use std::io::{self, ErrorKind, Read};
 
 /// The text of a book, read from its file, as far as the longest text and one byte more: what lies behind changes nothing.
 pub fn read_text<R: Read + Drop>(source: R) -> io::Result<ArrayVec<u8, 8193>>
-    ensures text { IfOk result (λ text. IfSome (R.remaining source) (λ xs. text.items ≡ take 8193 xs)) }
-    ensures same { FrontReports }
+    ensures { IfOk result (λ text. IfSome (R.remaining source) (λ xs. text.items ≡ take 8193 xs)) }
 {
     let mut text = ArrayVec::new();
     io::copy(&mut source.take(8193), &mut text)?;

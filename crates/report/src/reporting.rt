@@ -1,5 +1,5 @@
 ghost use Rattle.watch.specs.Pieces.{words};
-ghost use Rattle.report.specs.Reports.{Reported, OneReport};
+ghost use Rattle.report.specs.Reports.{Reported};
 ghost use Rattle.report.specs.Runs.{bytes_on};
 
 use crate::page::Page;
@@ -7,8 +7,7 @@ use crate::run::{Ending, Run};
 
 /// What is printed of the text of a book and the pieces of a trace, whose reading ended so.
 pub fn report(text: &[u8], pieces: &[&[u8]], end: Ending) -> Page
-    ensures reported { Reported text.now (words pieces.now) end (bytes_on result) }
-    ensures only { OneReport }
+    ensures { Reported text.now (words pieces.now) end (bytes_on result) }
 {
     match Run::new(text) {
         Ok(mut run) => {

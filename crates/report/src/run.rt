@@ -2,9 +2,9 @@ ghost use Rattle.std.specs.Prelude.{◌≡◌};
 ghost use Rattle.stream.specs.Traces.{fed_by};
 ghost use Rattle.report.specs.Runs.{WhereFollows};
 
-use crate::opening::ClauseNumbers;
 use book::Book;
 use stream::{Assembler, Refusal};
+use terms_watch::ClauseNumbers;
 use watch::Watch;
 
 /// How the reading of a trace ended.

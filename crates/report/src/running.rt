@@ -4,11 +4,11 @@ ghost use Rattle.stream.specs.Traces.{fed_by};
 ghost use Rattle.report.specs.Reports.{stop_by, last_line, Reported};
 ghost use Rattle.report.specs.Runs.{Follows, WhereFollows, GoesOn, bytes_on};
 
-use crate::opening::open;
 use crate::page::Page;
 use crate::run::{Ending, Run};
 use grammar::Fault;
 use stream::{Assembler, Refusal};
+use terms_watch::open;
 use watch::Notice;
 
 impl Run {

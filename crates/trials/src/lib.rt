@@ -1,4 +1,5 @@
-//! The tests of the report and of readable traces, a file for each. A crate with tests is proved twice, so these stand in one of their own.
+//! The tests of the report, of readable traces, and of programs that call a watch by themselves, a file for each. A crate with tests is proved
+//! twice, so these stand in one of their own.
 
 #![tactic(auto)]
 
@@ -6,3 +7,5 @@
 mod reports;
 #[cfg(test)]
 mod rowing;
+#[cfg(test)]
+mod visiting;

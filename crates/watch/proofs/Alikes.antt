@@ -1,54 +1,77 @@
--- Watches that are alike list and collect the same.
-use Rattle.std.proofs.Common.{◌≡◌, ℕ, min, Bool, ◌||◌, eqb, List, [], ◌∷◌, ◌++◌, length, take, drop, Ok, Err, Result, sym, ap, ◌∙◌, ap₂, arith}
+-- Watches that are alike answer alike, and go on alike.
+use Rattle.std.proofs.Common.{◌≡◌, ℕ, min, List, [], ◌∷◌, ◌++◌, length, take, drop, Ok, Err, Option, Result, sym, ap, ◌∙◌, ap₂, subst, arith}
 use Rattle.stream.specs.declared.refusal.Refusal.{Refusal}
 use Rattle.watch.specs.declared.notice.Notice.{Notice}
-use Rattle.watch.specs.Order.{Waits}
-use Rattle.watch.specs.Account.{Account, TookFirst, Collected, Listed, Alike, AlikeOn}
+use Rattle.watch.specs.Ledgers.{BySeat}
+use Rattle.watch.specs.Listing.{Shows}
+use Rattle.watch.specs.Seats.{with_collected, TookFirst}
+use Rattle.watch.specs.Account.{Account, Opened, Delivered, Collected, Listed, Alike}
+use Rattle.watch.specs.Pieces.{joined}
+use Rattle.watch.specs.InTurn.{InTurn, AlikeOn}
 use Rattle.watch.proofs.Only.{one_waiting}
+use Rattle.watch.proofs.Parts.{panel_is, seats_is, alike_is, alike_from}
+use Rattle.watch.proofs.Deliveries.{delivered_same}
+use Rattle.watch.proofs.Turns.{pieces_tell}
 
-module _ (a b : Account) (h : Alike a b) where
-  waits_alike : (ns : List Notice) → Waits a.number a.collected ns → Waits b.number b.collected ns
-  waits_alike ns w = record {
-    sorted = w.sorted;
-    each = λ n i. (sym (h.number n.seat) ∙ (w.each n i).0, sym (h.collected n.seat) ∙ (w.each n i).1);
-    all = λ n v. w.all n (h.number n.seat ∙ v.0, h.collected n.seat ∙ v.1);
-  }
+-- calls of one watch, answered twice
+begin_same : (a c d : Account) (n : ℕ) (r s : Result (Unit {0}) Refusal) → Opened a n c r → Opened a n d s → (r ≡ s) × Alike c d
+begin_same a c d n r s p q = (
+  p.began.answer ∙ sym q.began.answer,
+  alike_from c d
+      (λ i. record {
+        feed = (q.began.state ∙ sym p.began.state) i;
+        panel = (panel_is a.panel d.panel q.panel ∙ sym (panel_is a.panel c.panel p.panel)) i;
+        ledger = (seats_is a.ledger d.ledger q.ledger ∙ sym (seats_is a.ledger c.ledger p.ledger)) i;
+      }),
+)
 
-  same_waiting : (ns ms : List Notice) → Waits a.number a.collected ns → Waits b.number b.collected ms → ns ≡ ms
-  same_waiting ns ms w v = one_waiting b.number b.collected ns ms (waits_alike ns w) v
+-- one list of notices, shown twice
+pub shows_same : (ns ms before after later : List Notice) (w v n m : ℕ) → ns ≡ ms → Shows ns before after w n → Shows ms before later v m → (w ≡ v) × (n ≡ m) × (after ≡ later)
+shows_same ns ms before after later w v n m e p q =
+    let waiting : n ≡ m = p.all ∙ ap length e ∙ sym q.all in
+    let written : w ≡ v = p.room ∙ ap (λ (z : ℕ). min z (length before)) waiting ∙ sym q.room in
+    (written, waiting, p.list ∙ ap₂ (λ (z : ℕ) (y : List Notice). take z y ++ drop z before) written e ∙ sym q.list)
 
-  alike_list : (before after later : List Notice) (w v n m : ℕ) → Listed a before after w n → Listed b before later v m → (w ≡ v) × (n ≡ m) × (after ≡ later)
-  alike_list before after later w v n m l k =
-      let ns = same_waiting l.notices k.notices l.right k.right in
-      let waiting : n ≡ m = l.all ∙ ap length ns ∙ sym k.all in
-      let written : w ≡ v = l.room ∙ ap (λ (z : ℕ). min z (length before)) waiting ∙ sym k.room in
-      (written, waiting, l.list ∙ ap₂ (λ (z : ℕ) (y : List Notice). take z y ++ drop z before) written ns ∙ sym k.list)
+list_same : (a : Account) (before after later : List Notice) (w v n m : ℕ) → Listed a before after w n → Listed a before later v m → (w ≡ v) × (n ≡ m) × (after ≡ later)
+list_same a before after later w v n m l k =
+    shows_same l.notices k.notices before after later w v n m (one_waiting a.ledger.number a.ledger.collected l.notices k.notices l.right k.right) l.shows k.shows
 
-  -- what the two took away
-  same_took : (c d : Account) (r s : Result Notice Refusal) → TookFirst a c r → TookFirst b d s → (r ≡ s) × ((k : ℕ) → c.collected k ≡ d.collected k)
-  same_took c d (Ok n) (Ok m) (x, w, f) (y, v, g) =
-      let both = same_waiting (n ∷ x) (m ∷ y) w v in
+module _ (s t u : BySeat) where
+  took_same : (x y : Result Notice Refusal) → TookFirst s t x → TookFirst s u y → (x ≡ y) × (u ≡ t)
+  took_same (Ok n) (Ok m) (ns, w, f) (ms, v, g) =
+      let both = one_waiting s.number s.collected (n ∷ ns) (m ∷ ms) w v in
       let same : n ≡ m = cc in
-      (ap Ok same, λ k. f k ∙ ap₂ (λ (p q : Bool). p || q) (h.collected k) (ap (λ (z : Notice). eqb z.seat k) same) ∙ sym (g k))
-  same_took c d (Ok n) (Err e) (x, w, f) (q, v, g) = let both = same_waiting (n ∷ x) [] w v in absurd (let z : ◌≡◌ {A = ℕ} 0 1 = cc in omega arith)
-  same_took c d (Err e) (Ok m) (p, w, f) (y, v, g) = let both = same_waiting [] (m ∷ y) w v in absurd (let z : ◌≡◌ {A = ℕ} 0 1 = cc in omega arith)
-  same_took c d (Err e) (Err i) (p, w, f) (q, v, g) = (ap Err (p ∙ sym q), λ k. f k ∙ h.collected k ∙ sym (g k))
+      (ap Ok same, seats_is _ u g ∙ ap (λ (z : Notice). with_collected z.seat s) (sym same) ∙ sym (seats_is _ t f))
+  took_same (Ok n) (Err e) (ns, w, f) (q, v, g) = let both = one_waiting s.number s.collected (n ∷ ns) [] w v in absurd (let z : ◌≡◌ {A = ℕ} 0 1 = cc in omega arith)
+  took_same (Err e) (Ok m) (p, w, f) (ms, v, g) = let both = one_waiting s.number s.collected [] (m ∷ ms) w v in absurd (let z : ◌≡◌ {A = ℕ} 0 1 = cc in omega arith)
+  took_same (Err e) (Err i) (p, w, f) (q, v, g) = (ap Err (p ∙ sym q), seats_is s u g ∙ sym (seats_is s t f))
 
-  alike_collect : (c d : Account) (r s : Result Notice Refusal) → Collected a c r → Collected b d s → (r ≡ s) × Alike c d
-  alike_collect c d r s p q =
-      let took = same_took c d r s p.took q.took in (
-        took.0,
-        record {
-          feed = p.feed ∙ h.feed ∙ sym q.feed;
-          seats = p.seats ∙ h.seats ∙ sym q.seats;
-          meaning = λ l k. p.meaning l k ∙ h.meaning l k ∙ sym (q.meaning l k);
-          number = λ k. p.number k ∙ h.number k ∙ sym (q.number k);
-          collected = took.1;
-        },
-      )
+collect_same : (a c d : Account) (r s : Result Notice Refusal) → Collected a c r → Collected a d s → (r ≡ s) × Alike c d
+collect_same a c d r s p q =
+    let took = took_same a.ledger c.ledger d.ledger r s p.ledger q.ledger in (
+      took.0,
+      alike_from c d (λ i. record {
+        feed = (q.feed ∙ sym p.feed) i;
+        panel = (panel_is a.panel d.panel q.panel ∙ sym (panel_is a.panel c.panel p.panel)) i;
+        ledger = took.1 i;
+      }),
+    )
 
+pieces_same : (a c d : Account) (ps qs : List (List ℕ)) (n m : ℕ) (r s : Option Refusal) → joined ps ≡ joined qs → InTurn a ps c n r → InTurn a qs d m s
+    → (n ≡ m) × (r ≡ s) × Alike c d
+pieces_same a c d ps qs n m r s e x y =
+    delivered_same a c d (joined qs) n m r s (subst (λ (ws : List ℕ). Delivered a ws c n r) e (pieces_tell a c ps n r x)) (pieces_tell a d qs m s y)
+
+-- alike watches are one
 pub alike_on : AlikeOn
 alike_on = record {
-  list = λ a b before after later w v n m h. alike_list a b h before after later w v n m;
-  collect = λ a b c d r s h. alike_collect a b h c d r s;
+  begin = λ a b c d n r s h p q. begin_same a c d n r s p (subst (λ (z : Account). Opened z n d s) (alike_is a b h) q);
+  pieces = λ a b c d ps qs n m r s h e p q. pieces_same a c d ps qs n m r s e p (subst (λ (z : Account). InTurn z qs d m s) (alike_is a b h) q);
+  list = λ a b before after later w v n m h p q. list_same a before after later w v n m p (subst (λ (z : Account). Listed z before later v m) (alike_is a b h) q);
+  collect = λ a b c d r s h p q. collect_same a c d r s p (subst (λ (z : Account). Collected z d s) (alike_is a b h) q);
 }
+
+pub delivered_alike : (a b c d : Account) (ws vs : List ℕ) (n m : ℕ) (r s : Option Refusal) → Alike a b → ws ≡ vs → Delivered a ws c n r → Delivered b vs d m s
+    → (n ≡ m) × (r ≡ s) × Alike c d
+delivered_alike a b c d ws vs n m r s h e x y =
+    delivered_same a c d vs n m r s (subst (λ (zs : List ℕ). Delivered a zs c n r) e x) (subst (λ (z : Account). Delivered z vs d m s) (alike_is a b h) y)

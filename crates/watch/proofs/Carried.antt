@@ -4,7 +4,7 @@ use Rattle.stream.specs.declared.sample.Sample.{Sample}
 use Rattle.stream.specs.declared.numbered.Numbered.{Numbered}
 use Rattle.watch.specs.declared.notice.Notice.{Notice}
 use Rattle.watch.specs.Falls.{FallsFrom, FallsBy}
-use Rattle.watch.specs.Story.{Notices, NoticesBy}
+use Rattle.watch.specs.Notices.{Notices, NoticesBy}
 
 -- P says of a list what F says of seat k
 abbrev pub Says : (List Sample → ℕ → Bool) → ℕ → (List Sample → Type 0) → Type 0

@@ -5,10 +5,13 @@ pub mod Sorting
 pub mod Listings
 pub mod Falling
 pub mod Feeding
+pub mod Parts
 pub mod Deliveries
+pub mod Turns
 pub mod Alikes
 pub mod Ranges
 pub mod Held
 pub mod Stories
+pub mod Again
 pub mod Plays
 pub mod Carried

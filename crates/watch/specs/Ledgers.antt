@@ -16,3 +16,11 @@ collected_of g k = has_seat g.collected k
 abbrev pub waiting_of : Ledger → ℕ → Option Notice
 waiting_of g k =
     cond (has_seat g.lost k && not (has_seat g.collected k)) (Some (record { seat = k; number = slice_index g.numbers (k - 1) })) None
+
+-- what is kept of each seat: its number, if it is lost, and whether its notice was collected
+pub record BySeat : Type 0 where
+  pub number : ℕ → Option ℕ
+  pub collected : ℕ → Bool
+
+abbrev pub by_seat : Ledger → BySeat
+by_seat g = record { number = number_of g; collected = collected_of g }

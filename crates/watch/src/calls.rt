@@ -1,11 +1,7 @@
-ghost use Rattle.std.specs.Prelude.{◌≡◌, ℕ, ◌≤◌, List, [], ◌∷◌, length, if◌then◌else◌, Some, None};
-ghost use Rattle.std.specs.Ordering.{MatchOrdering};
-ghost use Rattle.stream.specs.declared.sample.Sample.{Sample};
-ghost use Rattle.watch.specs.Falls.{NumbersRight};
-ghost use Rattle.watch.specs.Ledgers.{number_of, collected_of};
-ghost use Rattle.watch.specs.Losses.{kept_or};
-ghost use Rattle.watch.specs.declared.notice.Notice.{Notice};
-ghost use Rattle.watch.specs.Order.{Before, OneWaiting};
+ghost use Rattle.std.specs.Prelude.{◌≡◌, ℕ, ◌≤◌, [], ◌∷◌, length};
+ghost use Rattle.panel.specs.Panels.{PanelAfter};
+ghost use Rattle.watch.specs.Ledgers.{by_seat};
+ghost use Rattle.watch.specs.Seats.{SeatsAfter};
 ghost use Rattle.watch.specs.Account.{account, Made, Opened, Delivered, Collected, Listed};
 ghost use Rattle.watch.specs.Words.{count_in, refusal_in};
 
@@ -18,7 +14,7 @@ use stream::{Feed, Numbered, Refusal};
 impl<P: Panel> Watch<P> {
     /// A watch on a panel, before any word. A seat that the panel has lost already has number 0.
     pub fn new(panel: P) -> Watch<P>
-        ensures { Made (P.fails panel) (P.count panel) (account P.count P.fails result) }
+        ensures { Made (P.meaning panel) (account P.meaning result) }
     {
         let ledger = Ledger::new(panel.lost());
         Watch {
@@ -30,7 +26,7 @@ impl<P: Panel> Watch<P> {
 
     /// Numbers the samples from `number` on, while no word was taken.
     pub fn begin(&mut self, number: u64) -> Result<(), Refusal>
-        ensures { Opened (account P.count P.fails self.old) number (account P.count P.fails self.new) result }
+        ensures { Opened (account P.meaning self.old) number (account P.meaning self.new) result }
     {
         self.feed.begin(number)
     }
@@ -38,8 +34,7 @@ impl<P: Panel> Watch<P> {
     /// Takes the words of a piece in turn, up to the first that is refused. Answers how many were taken, and the refusal if there is one.
     // A pair, and no `Result`: that form is fixed, and so is that of `list`.
     pub fn deliver(&mut self, piece: &[u32]) -> (usize, Option<Refusal>)
-        ensures delivered { Delivered (account P.count P.fails self.old) piece.now (account P.count P.fails self.new) result.0 result.1 }
-        ensures numbered { NumbersRight }
+        ensures { Delivered (account P.meaning self.old) piece.now (account P.meaning self.new) result.0 result.1 }
     {
         for (taken, word) in piece.iter().enumerate() {
             if let Err(refusal) = self.take(*word) {
@@ -50,7 +45,7 @@ impl<P: Panel> Watch<P> {
     }
 
     fn take(&mut self, word: u32) -> Result<(), Refusal>
-        ensures { Delivered (account P.count P.fails self.old) (word ∷ []) (account P.count P.fails self.new) (count_in result) (refusal_in result) }
+        ensures { Delivered (account P.meaning self.old) (word ∷ []) (account P.meaning self.new) (count_in result) (refusal_in result) }
     {
         if let Some(numbered) = self.feed.take(word)? {
             self.judge(numbered);
@@ -61,10 +56,8 @@ impl<P: Panel> Watch<P> {
     /// Has the panel judge a sample, and numbers the seats that it newly loses.
     fn judge(&mut self, numbered: Numbered)
         ensures feed { self.new.feed ≡ self.old.feed }
-        ensures seats { P.count self.new.panel ≡ P.count self.old.panel }
-        ensures meaning { (l : List Sample) (k : ℕ) → P.fails self.new.panel l k ≡ P.fails self.old.panel (numbered.sample ∷ l) k }
-        ensures number { (k : ℕ) → number_of self.new.ledger k ≡ kept_or (number_of self.old.ledger k) (if P.fails self.old.panel (numbered.sample ∷ []) k then Some numbered.number else None) }
-        ensures collected { (k : ℕ) → collected_of self.new.ledger k ≡ collected_of self.old.ledger k }
+        ensures panel { PanelAfter (P.meaning self.old.panel) (numbered.sample ∷ []) (P.meaning self.new.panel) }
+        ensures seats { SeatsAfter (P.meaning self.old.panel) (numbered ∷ []) (by_seat self.old.ledger) (by_seat self.new.ledger) }
     {
         let lost = self.panel.judge(numbered.sample);
         self.ledger.enter(lost, numbered.number);
@@ -72,7 +65,7 @@ impl<P: Panel> Watch<P> {
 
     /// Takes the first waiting notice away, and answers it.
     pub fn collect(&mut self) -> Result<Notice, Refusal>
-        ensures { Collected (account P.count P.fails self.old) (account P.count P.fails self.new) result }
+        ensures { Collected (account P.meaning self.old) (account P.meaning self.new) result }
     {
         let notice = self.ledger.next(None).ok_or(Refusal::NothingWaits)?;
         self.ledger.collect(notice.seat);
@@ -81,17 +74,15 @@ impl<P: Panel> Watch<P> {
 
     /// The number that the next sample will have.
     pub fn next_number(&self) -> u64
-        ensures { (result ≡ (account P.count P.fails self.now).feed.next) × (1 ≤ result) }
+        ensures { (result ≡ (account P.meaning self.now).feed.next) × (1 ≤ result) }
     {
         self.feed.next_number()
     }
 
     /// Writes the waiting notices into `out`, by number and then seat, as far as it reaches. Answers how many were written, and how many wait.
     pub fn list(&self, out: &mut [Notice]) -> (usize, usize)
-        ensures listed { Listed (account P.count P.fails self.now) out.old out.new result.0 result.1 }
+        ensures listed { Listed (account P.meaning self.now) out.old out.new result.0 result.1 }
         ensures few { (result.0 ≤ length out.old) × (result.1 ≤ 64) }
-        ensures only { OneWaiting }
-        ensures compare { (a b : Notice) → MatchOrdering (⟦<Notice as Ord>⟧.cmp a b) (Before a b) (a ≡ b) (Before b a) }
     {
         self.ledger.list(out)
     }

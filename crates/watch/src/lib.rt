@@ -5,13 +5,18 @@
 #![tactic(auto)]
 
 mod calls;
+mod laws;
 mod ledger;
 mod notice;
 mod pieces;
 mod story;
 mod watch;
 
+pub use laws::{
+    alike_tells, answers_tell, chains_tell, notices_compare, numbers_tell, pieces_tell, plays_show,
+    waiting_tells,
+};
 pub use notice::Notice;
 pub use pieces::deliver_both;
-pub use story::{Answer, Call, answer_to, chains_tell, play_into};
+pub use story::{PlayAnswer, PlayCall, answer_to, play_into};
 pub use watch::Watch;

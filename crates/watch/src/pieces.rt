@@ -1,6 +1,7 @@
 ghost use Rattle.std.specs.Prelude.{◌≡◌};
-ghost use Rattle.watch.specs.Account.{account, Delivered, Alike, AlikeOn};
-ghost use Rattle.watch.specs.Pieces.{words};
+ghost use Rattle.watch.specs.Account.{account, Delivered, Alike};
+ghost use Rattle.watch.specs.Pieces.{contents, words};
+ghost use Rattle.watch.specs.InTurn.{InTurn};
 
 use crate::watch::Watch;
 use panel::Panel;
@@ -9,7 +10,8 @@ use stream::Refusal;
 impl<P: Panel> Watch<P> {
     /// Delivers the pieces in turn, up to the first word that is refused. Lent pieces may overlap, so that their words can be more than a `usize` counts.
     pub fn deliver_pieces(&mut self, pieces: &[&[u32]]) -> (u128, Option<Refusal>)
-        ensures { Delivered (account P.count P.fails self.old) (words pieces.now) (account P.count P.fails self.new) result.0 result.1 }
+        ensures each { InTurn (account P.meaning self.old) (contents pieces.now) (account P.meaning self.new) result.0 result.1 }
+        ensures whole { Delivered (account P.meaning self.old) (words pieces.now) (account P.meaning self.new) result.0 result.1 }
     {
         let mut total: u128 = 0;
         for piece in pieces {
@@ -30,10 +32,11 @@ pub fn deliver_both<P: Panel, Q: Panel>(
     xs: &[&[u32]],
     ys: &[&[u32]],
 ) -> ((u128, Option<Refusal>), (u128, Option<Refusal>))
-    ensures first { Delivered (account P.count P.fails a.old) (words xs.now) (account P.count P.fails a.new) result.0.0 result.0.1 }
-    ensures second { Delivered (account Q.count Q.fails b.old) (words ys.now) (account Q.count Q.fails b.new) result.1.0 result.1.1 }
-    ensures alike { Alike (account P.count P.fails a.old) (account Q.count Q.fails b.old) → words xs.now ≡ words ys.now → (result.0 ≡ result.1) × Alike (account P.count P.fails a.new) (account Q.count Q.fails b.new) }
-    ensures on { AlikeOn }
+    ensures first { InTurn (account P.meaning a.old) (contents xs.now) (account P.meaning a.new) result.0.0 result.0.1 }
+    ensures first_whole { Delivered (account P.meaning a.old) (words xs.now) (account P.meaning a.new) result.0.0 result.0.1 }
+    ensures second { InTurn (account Q.meaning b.old) (contents ys.now) (account Q.meaning b.new) result.1.0 result.1.1 }
+    ensures second_whole { Delivered (account Q.meaning b.old) (words ys.now) (account Q.meaning b.new) result.1.0 result.1.1 }
+    ensures alike { Alike (account P.meaning a.old) (account Q.meaning b.old) → words xs.now ≡ words ys.now → (result.0 ≡ result.1) × Alike (account P.meaning a.new) (account Q.meaning b.new) }
 {
     let first = a.deliver_pieces(xs);
     let second = b.deliver_pieces(ys);

@@ -1,27 +1,25 @@
-ghost use Rattle.std.specs.Prelude.{◌≡◌, ◌++◌, length, take, drop};
-ghost use Rattle.watch.specs.Account.{Account, account, Made};
-ghost use Rattle.watch.specs.Calls.{Looked};
-ghost use Rattle.watch.specs.Chains.{Step, Chain, ChainsTell};
-ghost use Rattle.watch.specs.Story.{Story};
+ghost use Rattle.std.specs.Prelude.{◌≡◌, length, take, drop};
+ghost use Rattle.watch.specs.Account.{account};
+ghost use Rattle.watch.specs.Plays.{Looked, PlayAnswered, Played};
 
 use crate::notice::Notice;
 use crate::watch::Watch;
 use panel::Panel;
 use stream::Refusal;
 
-/// A call of a watch, with its arguments. For `list` that is the room in the caller's list.
+/// A call to be made of a watch. To `list` as many blanks are lent as `room` says, of number 0 and seat 0, and 64 at most.
 #[derive(Drop)]
-pub enum Call<'a> {
+pub enum PlayCall<'a> {
     Begin(u64),
     Deliver(&'a [u32]),
     List { room: usize },
     Collect,
 }
 
-/// What was answered to a call. Of a listing, `out` has the notices that were written, and behind them blanks, of number 0 and seat 0.
+/// What was answered to a call, by its form. Of a listing, `out` has the notices that were written, and behind them blanks.
 #[derive(Clone, Copy)]
-pub enum Answer {
-    Begun(Result<(), Refusal>),
+pub enum PlayAnswer {
+    Done(Result<(), Refusal>),
     Taken(usize, Option<Refusal>),
     // An array and a count, and not an `ArrayVec` of what was written: an answer is `Copy`, and shows what `list` left.
     Listed {
@@ -32,14 +30,9 @@ pub enum Answer {
     Collected(Result<Notice, Refusal>),
 }
 
-/// Every chain of calls of a watch is a story.
-pub fn chains_tell()
-    ensures { ChainsTell }
-{}
-
 /// What `list` writes into a list with so much room, and what it answers. More than 64 never wait.
 fn look<P: Panel>(watch: &Watch<P>, room: usize) -> ([Notice; 64], usize, usize)
-    ensures { Looked (account P.count P.fails watch.now) room result.0 result.1 result.2 }
+    ensures { Looked (account P.meaning watch.now) room result.0 result.1 result.2 }
 {
     let mut out = [Notice { seat: 0, number: 0 }; 64];
     let reach = room.min(64);
@@ -48,31 +41,30 @@ fn look<P: Panel>(watch: &Watch<P>, room: usize) -> ([Notice; 64], usize, usize)
 }
 
 /// Makes one call.
-pub fn answer_to<P: Panel>(watch: &mut Watch<P>, call: &Call<'_>) -> Answer
-    ensures { Step (account P.count P.fails watch.old) call.now (account P.count P.fails watch.new) result }
+pub fn answer_to<P: Panel>(watch: &mut Watch<P>, call: &PlayCall<'_>) -> PlayAnswer
+    ensures { PlayAnswered (account P.meaning watch.old) call.now (account P.meaning watch.new) result }
 {
     match call {
-        Call::Begin(number) => Answer::Begun(watch.begin(*number)),
-        Call::Deliver(piece) => {
+        PlayCall::Begin(number) => PlayAnswer::Done(watch.begin(*number)),
+        PlayCall::Deliver(piece) => {
             let (taken, refused) = watch.deliver(piece);
-            Answer::Taken(taken, refused)
+            PlayAnswer::Taken(taken, refused)
         }
-        Call::List { room } => {
+        PlayCall::List { room } => {
             let (out, written, waiting) = look(watch, *room);
-            Answer::Listed {
+            PlayAnswer::Listed {
                 out,
                 written,
                 waiting,
             }
         }
-        Call::Collect => Answer::Collected(watch.collect()),
+        PlayCall::Collect => PlayAnswer::Collected(watch.collect()),
     }
 }
 
 /// Makes a watch on the panel, makes the calls in turn, as far as there is room for the answers, and hands the watch back.
-pub fn play_into<P: Panel>(panel: P, calls: &[Call<'_>], answers: &mut [Answer]) -> Watch<P>
-    ensures chain { (a : Account) × Made (P.fails panel) (P.count panel) a × Chain a (take (length answers.old) calls.now) (take (length calls.now) answers.new) (account P.count P.fails result) }
-    ensures story { Story (P.fails panel) (take (length answers.old) calls.now) (take (length calls.now) answers.new) (account P.count P.fails result) }
+pub fn play_into<P: Panel>(panel: P, calls: &[PlayCall<'_>], answers: &mut [PlayAnswer]) -> Watch<P>
+    ensures played { Played (P.meaning panel) (take (length answers.old) calls.now) (take (length calls.now) answers.new) (account P.meaning result) }
     ensures rest { drop (length calls.now) answers.new ≡ drop (length calls.now) answers.old }
 {
     let mut watch = Watch::new(panel);

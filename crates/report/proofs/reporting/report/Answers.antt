@@ -3,12 +3,11 @@ use Rattle.std.proofs.lemmas.List.{append_assoc, append-nil, drop_all, drop_more
 use Rattle.watch.specs.Pieces.{words}
 use Rattle.report.specs.Reports.{stop_page, faulty, Reported}
 use Rattle.report.specs.Runs.{bytes_on}
-use Rattle.report.proofs.Only.{one_report}
 use Rattle.report.proofs.reporting.report.Goals as goal
 
 pub returns-in-Err : goal.returns-in-Err
 returns-in-Err c =
-    record { reported = faulty c.in-Err.fault c.in-Err.ensures (c.stopped.ensures ∙ ap stop_page c.refusal.ensures); only = one_report }
+    faulty c.in-Err.fault c.in-Err.ensures (c.stopped.ensures ∙ ap stop_page c.refusal.ensures)
 
 pub loop-piece-preserved : goal.loop-piece-preserved
 loop-piece-preserved c =
@@ -30,7 +29,4 @@ returns-after-loop-piece c =
     sym (append-nil before)
     ∙ ap (λ (qs : List (Bor (List ℕ))). before ++ words qs) (sym (drop_all c.loop-piece.piece-index c.args.pieces.now c.loop-piece-test.false))
     ∙ c.loop-piece.invariant.2 in
-    record {
-      reported = subst (λ (l : List ℕ). Reported c.args.text.now l c.args.end (bytes_on c.page.result)) all (c.page.ensures _ before c.loop-piece.invariant.1);
-      only = one_report;
-    }
+    subst (λ (l : List ℕ). Reported c.args.text.now l c.args.end (bytes_on c.page.result)) all (c.page.ensures _ before c.loop-piece.invariant.1)

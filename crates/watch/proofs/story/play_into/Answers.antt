@@ -1,19 +1,14 @@
 use Rattle.std.proofs.Common.{◌-◌, ◌<◌, List, length, take, refl, subst, arith}
 use Rattle.std.proofs.lemmas.List.{length-take, get_or-take}
-use Rattle.watch.specs.declared.story.Call.{Call}
-use Rattle.watch.specs.declared.story.Answer.{Answer}
+use Rattle.watch.specs.declared.story.PlayCall.{PlayCall}
+use Rattle.watch.specs.declared.story.PlayAnswer.{PlayAnswer}
 use Rattle.watch.specs.Account.{account}
-use Rattle.watch.specs.Chains.{Chain, none, Lawful}
 use Rattle.watch.proofs.Stories.{tell}
-use Rattle.watch.proofs.Plays.{placed, reached, beyond}
-use Rattle.watch.proofs.story.play_into.Given as given
+use Rattle.watch.proofs.Plays.{Playing, playing_none, placed, reached, beyond}
 use Rattle.watch.proofs.story.play_into.Goals as goal
 
-lawful : (g : given.Over) (m : g.row.P.Denot) → Lawful (g.P.Panel.fails m) (g.P.Panel.count m)
-lawful g m = record { size = g.met.P.Panel.size m; within = g.met.P.Panel.within m; lasting = g.met.P.Panel.lasting m }
-
 pub loop-i-init : goal.loop-i-init
-loop-i-init g c = (none, refl)
+loop-i-init g c = (playing_none _, refl)
 
 pub loop-i-preserved : goal.loop-i-preserved
 loop-i-preserved g c =
@@ -26,14 +21,21 @@ pub returns : goal.returns
 returns g c =
     let calls = c.args.calls.now in
     let answers = c.loop-i.answers in
-    let a = account g.P.Panel.count g.P.Panel.fails c.new-watch.result in
-    let b = account g.P.Panel.count g.P.Panel.fails c.loop-i.watch in
+    let a = account g.P.Panel.meaning c.new-watch.result in
+    let b = account g.P.Panel.meaning c.loop-i.watch in
     let made = reached calls c.loop-i.i (length c.args.answers.now) (omega (arith, c.min-count.ensures)) in
     let given = reached answers c.loop-i.i (length calls) (omega (arith, c.min-count.ensures)) in
-    let chain : Chain a (take (length c.args.answers.now) calls) (take (length calls) answers) b =
-    subst (λ (z : List Call). Chain a z (take (length calls) answers) b) made (subst (λ (z : List Answer). Chain a (take c.loop-i.i calls) z b) given c.loop-i.invariant.0) in
+    let playing : Playing a (take (length c.args.answers.now) calls) (take (length calls) answers) b =
+    subst (λ (z : List PlayCall). Playing a z (take (length calls) answers) b) made (subst (λ (z : List PlayAnswer). Playing a (take c.loop-i.i calls) z b) given c.loop-i.invariant.0) in
     record {
-      chain = (a, c.new-watch.ensures, chain);
-      story = tell (g.P.Panel.fails c.args.panel) (g.P.Panel.count c.args.panel) (lawful g c.args.panel) a b _ _ c.new-watch.ensures chain;
+      played = record {
+        start = a;
+        exchanges = playing.exchanges;
+        calls_are = playing.calls_are;
+        answers_are = playing.answers_are;
+        made = c.new-watch.ensures;
+        chain = playing.chain;
+        story = tell (g.P.Panel.meaning c.args.panel) (g.met.P.Panel.lawful c.args.panel) a b playing.exchanges c.new-watch.ensures playing.chain;
+      };
       rest = beyond answers c.args.answers.now c.loop-i.i (length calls) c.loop-i.auto.answers (omega (arith, c.min-count.ensures)) c.loop-i.invariant.1;
     }

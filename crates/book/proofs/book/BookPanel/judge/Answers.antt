@@ -47,8 +47,7 @@ returns c =
     rw (← c.deref_mut-clause-items.ensures.value) (subst (AllZip (Judged c.args.sample) cs) (take_all i ds (omega arith)) (subst (λ xs. AllZip (Judged c.args.sample) xs (take i ds)) (take_all i cs (omega arith)) c.loop-i.invariant.0)) in
     let seats = judged_seats c.args.sample v.items ds all in
     record {
-      seated = search rules;
-      after = λ l k. rw is ((seats k).0 l);
+      after = record { count = search rules; lost = λ l k. rw is ((seats k).0 l) };
       answer = λ k. rw is (c.loop-i.invariant.2 k ∙ ap (λ xs. fails_at (at_seat xs k) []) (take_all i ds (omega arith)));
       numbered = λ k. rw is (seats k).1;
     }

@@ -1,5 +1,5 @@
 use Rattle.std.proofs.Common.{◌≡◌, ◌+◌, ◌*◌, ◌++◌, drop}
-use Rattle.report.specs.Stories.{term_at}
+use Rattle.terms_watch.specs.Stories.{term_at}
 use Rattle.report.specs.Reports.{printed, notice_lines}
 use Rattle.report.specs.Runs.{bytes_on}
 use Rattle.report.proofs.page.Page.put_notices.Given as goal

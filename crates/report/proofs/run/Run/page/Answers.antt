@@ -1,6 +1,6 @@
 use Rattle.std.proofs.Common.{◌≡◌, ℕ, ◌-◌, List, take, refl, ap, ◌∙◌, arith}
 use Rattle.watch.specs.declared.notice.Notice.{Notice}
-use Rattle.report.specs.Stories.{term_at}
+use Rattle.terms_watch.specs.Stories.{term_at}
 use Rattle.report.specs.Reports.{notice_lines, page_of}
 use Rattle.report.proofs.Printed.{lines_page, all_listed, told}
 use Rattle.report.proofs.run.Run.page.Goals as goal

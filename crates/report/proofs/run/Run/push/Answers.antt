@@ -13,7 +13,7 @@ pub returns-in-Some : goal.returns-in-Some
 returns-in-Some c text before f =
     let run = c.args.self.now in
     let none = none_of run.refused (sym c.is_some.ensures ∙ c.if-is_some.false) in
-    word_whole_on text before (c.args.byte ∷ []) run _ c.in-Some.word c.deliver-refused.result.0 none refl c.deliver-refused.ensures.delivered c.in-Some.ensures f
+    word_whole_on text before (c.args.byte ∷ []) run _ c.in-Some.word c.deliver-refused.result.0 none refl c.deliver-refused.ensures c.in-Some.ensures f
 
 pub returns-in_default : goal.returns-in_default
 returns-in_default c text before f =

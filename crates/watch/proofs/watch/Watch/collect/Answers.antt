@@ -4,6 +4,7 @@ use Rattle.stream.specs.declared.refusal.Refusal.TheVariants.{NothingWaits}
 use Rattle.watch.specs.Ledgers.{number_of, collected_of}
 use Rattle.watch.specs.Order.{Next}
 use Rattle.watch.proofs.Entries.{only_seat}
+use Rattle.watch.proofs.Parts.{panel_refl, seats_refl}
 use Rattle.watch.proofs.Picks.{waiting_seat}
 use Rattle.watch.proofs.Sorting.{waiting_list, waiting_list_lem}
 use Rattle.watch.proofs.Listings.{first_waiting, none_waiting}
@@ -18,11 +19,16 @@ returns g c =
     let within = waiting_seat l n next.0 in
     let first = first_waiting (number_of l) (collected_of l) (waiting_list (number_of l) (collected_of l)) n (waiting_list_lem (number_of l) (collected_of l) (waiting_seat l)) next in
     record {
-      took = (first.0, first.1, λ k. c.collect.ensures.collected k ∙ ap (λ (b : Bool). collected_of l k || b) (only_seat n.seat k within.0 within.1));
       feed = refl;
-      seats = refl;
-      meaning = λ x k. refl;
-      number = c.collect.ensures.number;
+      panel = panel_refl _;
+      ledger = (
+        first.0,
+        first.1,
+        record {
+          number = c.collect.ensures.number;
+          collected = λ k. c.collect.ensures.collected k ∙ ap (λ (b : Bool). collected_of l k || b) (only_seat n.seat k within.0 within.1);
+        },
+      );
     }
 
 pub returns-in_err-notice : goal.returns-in_err-notice
@@ -33,9 +39,7 @@ returns-in_err-notice g c =
     let p = err_from_is_err_and c.from_residual.result c.from_residual.ensures.1 in
     rw (p.1, p.2, why)
     (record {
-      took = (refl, none_waiting (number_of l) (collected_of l) (subst (Next (number_of l) (collected_of l) None) none c.next.ensures), λ k. refl);
       feed = refl;
-      seats = refl;
-      meaning = λ x k. refl;
-      number = λ k. refl;
+      panel = panel_refl _;
+      ledger = (refl, none_waiting (number_of l) (collected_of l) (subst (Next (number_of l) (collected_of l) None) none c.next.ensures), seats_refl _);
     })

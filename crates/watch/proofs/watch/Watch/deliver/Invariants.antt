@@ -5,4 +5,4 @@ use Rattle.watch.proofs.watch.Watch.deliver.Given as goal
 
 abbrev pub invariant-loop-taken : goal.invariant-loop-taken
 invariant-loop-taken g l =
-    Rest (account g.P.Panel.count g.P.Panel.fails l.initial.self) l.piece (account g.P.Panel.count g.P.Panel.fails l.self) l.taken (drop l.taken l.piece)
+    Rest (account g.P.Panel.meaning l.initial.self) l.piece (account g.P.Panel.meaning l.self) l.taken (drop l.taken l.piece)

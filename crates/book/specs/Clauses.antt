@@ -1,4 +1,4 @@
--- What a clause answers, from what its parts do, and which clause is that of a line.
+-- What a clause answers, from what its parts do, and which clause is that of a line: that as new it answers its sentence is promised where a clause is made.
 use Rattle.std.specs.Prelude.{◌≡◌, Bool, List, Decides}
 use Rattle.stream.specs.declared.sample.Sample.{Sample}
 use Rattle.monitor.specs.declared.rule.Rule.{Rule}

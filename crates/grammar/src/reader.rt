@@ -104,7 +104,8 @@ impl<'a> Reader<'a> {
                 self.pass(word);
                 Ok(signal)
             }
-            _ => Err(self.refuse()),
+            Some(_) => Err(self.snag(Cause::WordNotAllowed)),
+            None => Err(self.snag(Cause::WordMissing)),
         }
     }
 

@@ -17,6 +17,8 @@ pub fn read_text<R: Read + Drop>(source: R) -> io::Result<ArrayVec<u8, 8193>>
 
 impl Run {
     /// Goes through the bytes of a trace, up to their end or the first word that is refused.
+    // A call of its own, so that its piece lies on the stack only while it reads.
+    #[inline(never)]
     pub fn follow<R: Read>(&mut self, source: &mut R) -> Ending
         ensures { Gave (R.remaining source.old) (R.remaining source.new) result (λ bytes. GoesOn self.old bytes self.new) }
     {

@@ -12,6 +12,8 @@ pub(crate) struct Input<'a> {
 
 impl Input<'_> {
     /// The text of a book, as far as it counts.
+    // A call of its own: what it reads in is off the stack before the book is made.
+    #[inline(never)]
     pub(crate) fn text(self) -> io::Result<ArrayVec<u8, 8193>> {
         read_text(File::open(self.rt, self.path)?)
     }

@@ -48,17 +48,30 @@ fn watch_files<'a>(
     trace: Input<'a>,
     out: &mut impl Write,
 ) -> io::Result<Option<Stop<'a>>> {
-    let Ok(text) = terms.text() else {
-        let refusal = Refusal::UnreadableFile;
-        out.write_all(Page::stopped(refusal).bytes())?;
-        let path = terms.path;
-        return Ok(Some(Stop::Refused { path, refusal }));
-    };
-    match Run::new(&text) {
+    match &terms.text() {
+        Ok(text) => watch_text(text, terms.path, trace, out),
+        Err(_) => {
+            let refusal = Refusal::UnreadableFile;
+            out.write_all(Page::stopped(refusal).bytes())?;
+            let path = terms.path;
+            Ok(Some(Stop::Refused { path, refusal }))
+        }
+    }
+}
+
+// A call of its own, so that its book and its run lie on the stack only once the text is read.
+#[inline(never)]
+fn watch_text<'a>(
+    text: &[u8],
+    terms: &'a str,
+    trace: Input<'a>,
+    out: &mut impl Write,
+) -> io::Result<Option<Stop<'a>>> {
+    match Run::new(text) {
         Ok(run) => watch_trace(run, trace, out),
         Err(fault) => {
             out.write_all(Page::stopped(fault.refusal()).bytes())?;
-            Ok(Some(Stop::at_fault(terms.path, &text, fault)))
+            Ok(Some(Stop::at_fault(terms, text, fault)))
         }
     }
 }

@@ -1,6 +1,7 @@
 use crate::expected::expected_at;
 use crate::files::Input;
 use crate::watch_files;
+use arrayvec::ArrayVec;
 use book::Book;
 use std::fs;
 use std::io::Write;
@@ -49,7 +50,7 @@ const FROM: &str = "expected from, a further rule (or), allow, or the end of the
 const FURTHER: &str = "expected a further rule (or), allow, or the end of the line";
 
 /// A word that fits nowhere, behind each front that a line can have: its column, and what was expected there.
-const FRONTS: [(&[u8], usize, &str); 30] = [
+const FRONTS: [(&[u8], usize, &str); 36] = [
     (b"?\n", 1, NUMBER),
     (b"7 ?\n", 3, RULE),
     (b"7 after ?\n", 9, SIGNAL),
@@ -62,13 +63,19 @@ const FRONTS: [(&[u8], usize, &str); 30] = [
     (b"7 hold a ?\n", 10, "expected least or under"),
     (b"7 hold a least ?\n", 16, LIMIT),
     (b"7 hold a under ?\n", 16, LIMIT),
+    (b"7 hold a least 5 ?\n", 18, FURTHER),
+    (b"7 hold a under 5 ?\n", 18, FURTHER),
     (b"7 repeat ?\n", 10, SIGNAL),
     (b"7 repeat a ?\n", 12, "expected within"),
     (b"7 repeat a within ?\n", 19, LIMIT),
+    (b"7 repeat a within 5 ?\n", 21, FURTHER),
     (b"7 answer ?\n", 10, SIGNAL),
     (b"7 answer a ?\n", 12, "expected by"),
     (b"7 answer a by ?\n", 15, SIGNAL),
     (b"7 answer a by b ?\n", 17, "expected within"),
+    (b"7 answer a by b within ?\n", 24, LIMIT),
+    (b"7 answer a by b within 5 ?\n", 26, FURTHER),
+    (b"7 keep ?\n", 8, SIGNAL),
     (b"7 keep a ?\n", 10, "expected for"),
     (b"7 keep a for ?\n", 14, LIMIT),
     (b"7 keep a for 5 ?\n", 16, "expected since"),
@@ -99,6 +106,40 @@ fn what_was_expected(rt: HostRuntime) {
     for (text, column, expected) in FRONTS {
         assert_eq!(rt; expected_in(text), Some((1, column, expected)));
     }
+}
+
+/// What is expected in a second rule, which no further one follows, where this is in a first.
+fn in_second(first: &'static str) -> &'static str {
+    match first {
+        FROM => "expected from, allow, or the end of the line",
+        FURTHER => "expected allow or the end of the line",
+        _ => first,
+    }
+}
+
+#[test]
+fn what_was_expected_in_a_second_rule(rt: HostRuntime) -> Result<(), Fail> {
+    for (text, column, first) in FRONTS {
+        let Some(front) = text.strip_prefix(b"7 ") else {
+            continue;
+        };
+        if front.starts_with(b"never a or") {
+            continue;
+        }
+        let mut line: ArrayVec<u8, 64> = ArrayVec::new();
+        line.try_extend_from_slice(b"7 never a or ")?;
+        line.try_extend_from_slice(front)?;
+        let expected = Some((1, column.saturating_add(11), in_second(first)));
+        assert_eq!(rt; expected_in(&line), expected);
+    }
+    Ok(())
+}
+
+/// In a line behind another.
+#[test]
+fn what_was_expected_in_a_second_line(rt: HostRuntime) {
+    let expected = expected_in(b"3 never c\n12 answer a by b in 5\n");
+    assert_eq!(rt; expected, Some((2, 18, "expected within")));
 }
 
 /// The faults that are not at a word.

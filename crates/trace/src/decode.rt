@@ -1,3 +1,5 @@
+ghost use Rattle.std.specs.Prelude.{◌≡◌, ◌+◌, ◌/◌};
+
 use crate::ended;
 use crate::lines::END_LINE;
 use rows::{Decoder, Entry, write_row};
@@ -44,7 +46,7 @@ pub(crate) fn decode_bytes<'a>(
     let mut decoder = Decoder::new();
     let mut word = 1;
     for (index, byte) in source.bytes().enumerate() {
-        word = index / 4 + 1;
+        word = word_number(index);
         let byte = byte.map_err(|_| Stop::Unreadable(trace))?;
         let entry = decoder.push(byte).map_err(|refusal| Stop::Word {
             trace,
@@ -58,6 +60,13 @@ pub(crate) fn decode_bytes<'a>(
         word,
         refusal,
     })
+}
+
+/// The number, from 1, of the word that begins or goes on behind so many bytes.
+fn word_number(bytes: usize) -> usize
+    ensures { result ≡ bytes / 4 + 1 }
+{
+    bytes / 4 + 1
 }
 
 /// Writes the line of an entry, if there is one.

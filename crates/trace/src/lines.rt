@@ -42,7 +42,7 @@ impl Encoder {
             return Ok(None);
         }
         let bytes = self.end_line()?;
-        self.line.clear();
+        self.line = ArrayVec::new();
         self.number = self.number.saturating_add(1);
         Ok(Some(bytes))
     }

@@ -1,9 +1,10 @@
-use crate::decode::decode_bytes;
+use crate::decode::{Stop, decode_bytes};
 use crate::encode::Encoding;
+use arrayvec::ArrayVec;
 use std::alloc::Allocator;
-use std::fmt;
 use std::io::Write;
 use std::test::Fail;
+use std::{fmt, fs};
 
 const ENCODING: Encoding<'static> = Encoding {
     lines: "day.txt",
@@ -93,5 +94,82 @@ fn what_is_said_of_a_word(rt: HostRuntime) -> Result<(), Fail> {
     for (words, wanted) in stops {
         assert!(rt; decoded(&rt, words)?.as_slice() == wanted);
     }
+    Ok(())
+}
+
+/// Makes the trace of a file of lines in the place of another file. What stands there then, and what is said of a stop.
+fn made_of(rt: &HostRuntime, name: &str, lines: &[u8]) -> Result<Vec<u8>, Fail> {
+    let lines_path = format!(in rt.alloc(); "{name}.txt")?;
+    let trace_path = format!(in rt.alloc(); "{name}.bin")?;
+    fs::write(rt, lines_path.as_str(), lines)?;
+    fs::write(rt, trace_path.as_str(), b"as before ")?;
+    let files = Encoding {
+        lines: &lines_path,
+        trace: &trace_path,
+    };
+    let work = files.make_trace(rt);
+    let seen = with_stop(fs::read(rt, trace_path.as_str())?, work)?;
+    fs::remove_file(rt, lines_path.as_str())?;
+    fs::remove_file(rt, trace_path.as_str())?;
+    Ok(seen)
+}
+
+#[test]
+fn a_trace_in_the_place_of_another(rt: HostRuntime) -> Result<(), Fail> {
+    let seen = made_of(&rt, "good", b"0 a\nend\n")?;
+    let wanted: &[u8] = b"@\0\0\x01\xC0\0\0\0";
+    assert!(rt; seen.as_slice() == wanted);
+    Ok(())
+}
+
+/// Every line is known to be good before any trace is touched.
+#[test]
+fn a_slip_leaves_the_trace(rt: HostRuntime) -> Result<(), Fail> {
+    let seen = made_of(&rt, "bad", b"0 a\n0 ba\n")?;
+    let wanted: &[u8] =
+        b"as before bad.txt, line 2, column 4: expected a later letter, up to x, or the end of the line";
+    assert!(rt; seen.as_slice() == wanted);
+    Ok(())
+}
+
+/// Lines that cannot be read, a trace that cannot be written, and lines in its place.
+#[test]
+fn files_that_cannot_be_used(rt: HostRuntime) -> Result<(), Fail> {
+    let cases: [(&str, &str, &[u8]); 3] = [
+        ("none.txt", "none.bin", b"none.txt: the file cannot be read"),
+        (
+            "lone.txt",
+            "none/lone.bin",
+            b"none/lone.bin: the file cannot be written",
+        ),
+        (
+            "lone.txt",
+            "lone.txt",
+            b"lone.txt: the lines would be overwritten",
+        ),
+    ];
+    let line: &[u8] = b"0 a\n";
+    fs::write(&rt, "lone.txt", line)?;
+    for (lines, trace, wanted) in cases {
+        let work = Encoding { lines, trace }.make_trace(&rt);
+        assert!(rt; with_stop(Vec::new(rt.alloc()), work)?.as_slice() == wanted);
+    }
+    assert!(rt; fs::read(&rt, "lone.txt")?.as_slice() == line);
+    fs::remove_file(&rt, "lone.txt")?;
+    Ok(())
+}
+
+/// A trace that cannot be read, and lines that cannot be written.
+#[test]
+fn what_is_said_of_a_trace(rt: HostRuntime) -> Result<(), Fail> {
+    let seen = with_stop(Vec::new(rt.alloc()), Err(Stop::Unreadable("none.bin")))?;
+    let wanted: &[u8] = b"none.bin: the file cannot be read";
+    assert!(rt; seen.as_slice() == wanted);
+    let mut room: ArrayVec<u8, 2> = ArrayVec::new();
+    let words: &[u8] = b"@\0\0\x01";
+    let work = decode_bytes("day.bin", words, &mut room);
+    let seen = with_stop(Vec::new(rt.alloc()), work)?;
+    let wanted: &[u8] = b"the lines cannot be written";
+    assert!(rt; seen.as_slice() == wanted);
     Ok(())
 }

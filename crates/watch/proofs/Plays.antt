@@ -70,14 +70,14 @@ playing_more a b d calls given c r p (x, is, s) =
       chain = link e d p.chain s;
     }
 
--- one call more was made and answered at its place
-pub placed : (a b d : Account) (calls : List PlayCall) (answers before : List PlayAnswer) (i : ℕ) (c : PlayCall) (r : PlayAnswer) → i < length calls → i < length answers
-    → Playing a (take i calls) (take i answers) b × (drop i answers ≡ drop i before) → PlayAnswered b (get_or calls i c) d r
+-- one call more, the one that comes next, was made and answered at its place
+pub placed : (a b d : Account) (calls : List PlayCall) (answers before : List PlayAnswer) (i : ℕ) (c x : PlayCall) (r : PlayAnswer) → i < length calls → i < length answers
+    → Playing a (take i calls) (take i answers) b × (drop i answers ≡ drop i before) → x ≡ get_or calls i c → PlayAnswered b x d r
     → Playing a (take (i + 1) calls) (take (i + 1) (set answers i r)) d × (drop (i + 1) (set answers i r) ≡ drop (i + 1) before)
-placed a b d calls answers before i c r h k (p, rest) s = (
+placed a b d calls answers before i c x r h k (p, rest) e s = (
   subst (λ (z : List PlayCall). Playing a z (take (i + 1) (set answers i r)) d) (sym (take_more calls i c h))
       (subst (λ (z : List PlayAnswer). Playing a (take i calls ++ get_or calls i c ∷ []) z d) (sym (take_more_set answers i r k))
-      (playing_more a b d (take i calls) (take i answers) (get_or calls i c) r p s)),
+      (playing_more a b d (take i calls) (take i answers) (get_or calls i c) r p (subst (λ (z : PlayCall). PlayAnswered b z d r) e s))),
   drop-set-lt (i + 1) answers i r (omega arith) ∙ sym (drop-drop 1 i answers) ∙ ap (drop 1) rest ∙ drop-drop 1 i before,
 )
 

@@ -1,6 +1,7 @@
 use Rattle.std.proofs.Common.{◌-◌, ◌<◌, List, length, take, refl, subst, arith}
 use Rattle.std.proofs.lemmas.List.{length-take, get_or-take}
 use Rattle.watch.specs.declared.story.PlayCall.{PlayCall}
+use Rattle.watch.specs.declared.story.PlayCall.TheVariants.{Begin}
 use Rattle.watch.specs.declared.story.PlayAnswer.{PlayAnswer}
 use Rattle.watch.specs.Account.{account}
 use Rattle.watch.proofs.Stories.{tell}
@@ -14,8 +15,9 @@ pub loop-i-preserved : goal.loop-i-preserved
 loop-i-preserved g c =
     let i = c.loop-i.i in
     let within : i < c.min-count.result - 0 = omega (arith, simp length-take at c.loop-i-test.true) in
-    placed _ _ _ c.args.calls.now c.loop-i.answers c.args.answers.now i _ _
-    (omega (arith, c.min-count.ensures)) (omega (arith, c.min-count.ensures)) c.loop-i.invariant (rw get_or-take at c.answer_to.ensures)
+    let given = get_or-take (c.min-count.result - 0) c.args.calls.now i (Begin 0) within in
+    placed _ _ _ c.args.calls.now c.loop-i.answers c.args.answers.now i (Begin 0) _ _
+    (omega (arith, c.min-count.ensures)) (omega (arith, c.min-count.ensures)) c.loop-i.invariant (search (given, refl)) c.answer_to.ensures
 
 pub returns : goal.returns
 returns g c =

@@ -132,30 +132,50 @@ fn a_slip_leaves_the_trace(rt: HostRuntime) -> Result<(), Fail> {
     Ok(())
 }
 
-/// Lines that cannot be read, a trace that cannot be written, and lines in its place.
+/// Lines, their trace, and what is said: of lines that cannot be read, of a trace that cannot be written, and of lines in its place.
+const UNUSABLE: [(&str, &str, &[u8]); 6] = [
+    ("none.txt", "none.bin", b"none.txt: the file cannot be read"),
+    // a folder can be opened, and not read
+    (".", "none.bin", b".: the file cannot be read"),
+    (
+        "lone.txt",
+        "none/lone.bin",
+        b"none/lone.bin: the file cannot be written",
+    ),
+    (
+        "lone.txt",
+        "/dev/full",
+        b"/dev/full: the file cannot be written",
+    ),
+    // more than is held back until the end
+    (
+        "many.txt",
+        "/dev/full",
+        b"/dev/full: the file cannot be written",
+    ),
+    (
+        "lone.txt",
+        "lone.txt",
+        b"lone.txt: the lines would be overwritten",
+    ),
+];
+
 #[test]
 fn files_that_cannot_be_used(rt: HostRuntime) -> Result<(), Fail> {
-    let cases: [(&str, &str, &[u8]); 3] = [
-        ("none.txt", "none.bin", b"none.txt: the file cannot be read"),
-        (
-            "lone.txt",
-            "none/lone.bin",
-            b"none/lone.bin: the file cannot be written",
-        ),
-        (
-            "lone.txt",
-            "lone.txt",
-            b"lone.txt: the lines would be overwritten",
-        ),
-    ];
     let line: &[u8] = b"0 a\n";
     fs::write(&rt, "lone.txt", line)?;
-    for (lines, trace, wanted) in cases {
+    let mut many = Vec::new(rt.alloc());
+    for _ in 0..3000 {
+        many.extend_from_slice(line)?;
+    }
+    fs::write(&rt, "many.txt", many.as_slice())?;
+    for (lines, trace, wanted) in UNUSABLE {
         let work = Encoding { lines, trace }.make_trace(&rt);
         assert!(rt; with_stop(Vec::new(rt.alloc()), work)?.as_slice() == wanted);
     }
     assert!(rt; fs::read(&rt, "lone.txt")?.as_slice() == line);
     fs::remove_file(&rt, "lone.txt")?;
+    fs::remove_file(&rt, "many.txt")?;
     Ok(())
 }
 
